@@ -1,0 +1,5 @@
+pub mod Digits
+pub mod Gaps
+pub mod Making
+pub mod Ranges
+pub mod Same
