@@ -1,0 +1,4 @@
+pub mod Entries
+pub mod Groups
+pub mod Spelling
+pub mod Writing
