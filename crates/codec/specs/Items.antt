@@ -4,7 +4,7 @@ use mathlib.Core.Bool.{Bool, true, false}
 use mathlib.Core.List.{List, [], _∷_, _++_}
 use mathlib.Core.Logic.{_⊎_}
 use Prim.Native.Nat.{ℕ, _+_, _-_, _<_, _≤_}
-use lib.ListN.{length}
+use lib.ListN.{length, drop}
 use Rattle.std.specs.declared.option.Option.{Option}
 use Rattle.std.specs.declared.option.Option.the-variants.{Some, None}
 use Rattle.std.specs.declared.result.Result.{Result}
@@ -15,6 +15,7 @@ use Rattle.codec.specs.declared.item.Item.{Item}
 use Rattle.codec.specs.declared.item.Item.the-variants.{Value, Symbol, End}
 use Rattle.codec.specs.declared.item.Level.{Level}
 use Rattle.codec.specs.Numbers.{Got, got, stop, read-number}
+use Rattle.codec.specs.Piles.{entries}
 use Rattle.codec.specs.Reading.{then}
 
 -- a reader on its way: the bytes left, whether a node comes next, and the levels of the nodes it is in, the root's first
@@ -86,3 +87,9 @@ module _ {S : Type 0} (end room : ℕ) (at : S) where
   Hands b (Ok (Some End)) a = Closes b a
   Hands b (Ok None) a = Over b a
   Hands b (Err e) a = (Node-fault b e ⊎ Symbol-fault b e) × (a ≡ b)
+
+-- one step of a reader over the input with its levels in the slots of a pile; the input stays, and so does the number of slots
+pub record Walks {S : Type 0} (at : S) (input : List ℕ) (place : ℕ) (fresh : Bool) (slots : List (Level S)) (count : ℕ) (r : Result (Option Item) Refusal) (input′ : List ℕ) (place′ : ℕ) (fresh′ : Bool) (slots′ : List (Level S)) (count′ : ℕ) : Type 0 where
+  pub hands : Hands (length input) (length slots) at (record { left = drop place input; fresh = fresh; levels = entries slots count }) r (record { left = drop place′ input; fresh = fresh′; levels = entries slots′ count′ })
+  pub same-input : input′ ≡ input
+  pub same-room : length slots′ ≡ length slots

@@ -1,6 +1,6 @@
 -- Finite trees: a value at each node, and children in order, each under a symbol. Assumes nothing.
 use mathlib.Core.List.{List, [], _∷_}
-use Prim.Native.Nat.{ℕ, _+_, max}
+use Prim.Native.Nat.{ℕ, suc, _+_, max}
 
 mutual
   pub data Tree : Type 0 where
@@ -18,7 +18,7 @@ word (child a t cs) = a ∷ word cs
 -- how many children there are
 abbrev pub many : Children → ℕ
 many none = 0
-many (child a t cs) = many cs + 1
+many (child a t cs) = suc (many cs)
 
 -- a single node has height 0
 abbrev mutual
