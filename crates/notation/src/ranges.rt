@@ -1,0 +1,27 @@
+//! Coverages as text: ranges joined by commas, `65-90,8364`, a lone number being a range of one, and `-` for no range.
+use crate::trouble::Trouble;
+use crate::words::digits;
+use api::Range;
+use std::alloc::Global;
+use crate::trouble::TroubleFromRefused;
+
+/// The range that a text says, its ends in any order.
+fn range(text: &str) -> Option<Range> {
+    let (first, last) = text.split_once('-').unwrap_or((text, text));
+    Some(Range {
+        first: digits(first)?,
+        last: digits(last)?,
+    })
+}
+
+/// The ranges that a word says, as many as it has and in its order. Whether they make a coverage is not asked.
+pub fn ranges<'a>(heap: Global, word: &'a str) -> Result<Vec<Range>, Trouble<'a>> {
+    let mut list = Vec::new(heap);
+    if word == "-" {
+        return Ok(list);
+    }
+    for text in word.split(',') {
+        list.push(range(text).ok_or(Trouble::Unreadable(word))?)?;
+    }
+    Ok(list)
+}
