@@ -2,7 +2,6 @@
 use api::LayerDisplay;
 use api::Refusal;
 use api::RefusalDisplay;
-use std::alloc::AllocError;
 use std::alloc::Refused;
 use std::fmt;
 
@@ -22,12 +21,6 @@ pub enum Trouble<'a> {
 pub impl<'a> From<Refusal> for Trouble<'a> as TroubleFromRefusal {
     fn from(refusal: Refusal) -> Trouble<'a> {
         Trouble::Refused(refusal)
-    }
-}
-
-pub impl<'a> From<AllocError> for Trouble<'a> as TroubleFromAlloc {
-    fn from(_error: AllocError) -> Trouble<'a> {
-        Trouble::Memory
     }
 }
 

@@ -34,3 +34,9 @@ pub fn number<'a>(words: &mut Words<'a>) -> Result<u32, Trouble<'a>> {
     let word = word(words)?;
     digits(word).ok_or(Trouble::Unreadable(word))
 }
+
+/// Whether a line is there for its reader alone: blank, or a comment behind '#'.
+pub fn aside(line: &str) -> bool {
+    let text = line.trim();
+    text.is_empty() || text.starts_with('#')
+}

@@ -1,0 +1,132 @@
+//! What an engine lacks of what a maker uses: letters, keywords, or a book with both.
+use api::Coverage;
+use api::CoverageDomain;
+use api::Domain;
+use api::Joint;
+use api::JointDomain;
+use api::Keywords;
+use api::KeywordsDomain;
+use notation::kinds::CoverageWritten;
+use notation::kinds::JointWritten;
+use notation::kinds::KeywordsWritten;
+use notation::kinds::Written;
+use notation::trouble::Trouble;
+use notation::trouble::TroubleDisplay;
+use notation::words::Words;
+use notation::words::aside;
+use notation::words::end;
+use notation::words::word;
+use std::alloc::Global;
+use std::fmt;
+use std::io;
+
+/// A book's keywords stand on the left and its letters on the right.
+type Book = Joint<Keywords, Coverage>;
+
+/// The first value of a joint that stands for one of its right domain.
+const MIDDLE: u32 = 2_147_483_648;
+
+/// A value of a domain, as a maker knows it.
+#[derive(Clone, Copy)]
+enum Member {
+    Keyword(u32),
+    Letter(u32),
+}
+
+impl fmt::Display for Member as MemberDisplay {
+    fn fmt<W: fmt::Write>(&self, f: &mut fmt::Formatter<W>) -> fmt::Result {
+        match self {
+            Member::Keyword(value) => write!(f, "keyword {value}"),
+            Member::Letter(value) => write!(f, "letter {value}"),
+        }
+    }
+}
+
+/// A kind of domain whose values have names.
+trait Named {
+    /// What a value stands for.
+    fn member(value: u32) -> Member;
+}
+
+impl Named for Keywords as KeywordsNamed {
+    fn member(value: u32) -> Member {
+        Member::Keyword(value)
+    }
+}
+
+impl Named for Coverage as CoverageNamed {
+    fn member(value: u32) -> Member {
+        Member::Letter(value)
+    }
+}
+
+impl<L: Named, R: Named> Named for Joint<L, R> as JointNamed {
+    fn member(value: u32) -> Member {
+        match value.checked_sub(MIDDLE) {
+            Some(right) => R::member(right),
+            None => L::member(value),
+        }
+    }
+}
+
+/// What a line of the job comes to.
+#[derive(Clone, Copy)]
+struct Finding<'a> {
+    kind: &'a str,
+    name: &'a str,
+    lack: Option<Member>,
+}
+
+impl<'a> fmt::Display for Finding<'a> as FindingDisplay {
+    fn fmt<W: fmt::Write>(&self, f: &mut fmt::Formatter<W>) -> fmt::Result {
+        let kind = self.kind;
+        let name = self.name;
+        match self.lack {
+            Some(member) => write!(f, "{kind} {name}: the engine lacks {member}"),
+            None => write!(f, "{kind} {name}: nothing is lacking"),
+        }
+    }
+}
+
+/// The first member of the domain read first, the maker's, that the one read second, the engine's, has not.
+fn lacking<'a, D: Domain + Written + Named>(
+    heap: Global,
+    words: &mut Words<'a>,
+) -> Result<Option<Member>, Trouble<'a>> {
+    let maker = D::read(heap, words)?;
+    let engine = D::read(heap, words)?;
+    end(words)?;
+    match maker.gap(&engine) {
+        Some(value) => Ok(Some(D::member(value))),
+        None => Ok(None),
+    }
+}
+
+/// What a line says: a kind, a name, and the two domains' words.
+fn found<'a>(heap: Global, line: &'a str) -> Result<Finding<'a>, Trouble<'a>> {
+    let mut words = line.split_whitespace();
+    let kind = word(&mut words)?;
+    let name = word(&mut words)?;
+    let lack = match kind {
+        "letters" => lacking::<Coverage>(heap, &mut words)?,
+        "keywords" => lacking::<Keywords>(heap, &mut words)?,
+        "book" => lacking::<Book>(heap, &mut words)?,
+        _ => return Err(Trouble::Unreadable(kind)),
+    };
+    Ok(Finding { kind, name, lack })
+}
+
+/// Does the job and prints a line for each of its lines. One that is refused or unreadable does not stop it.
+pub fn run(rt: &LibcRuntime, job: &str) -> io::Result<()> {
+    for (index, line) in job.lines().enumerate() {
+        if aside(line) {
+            continue;
+        }
+        let number = index + 1;
+        match found(rt.alloc(), line) {
+            Ok(finding) => println!(rt, "line {number}: {finding}")?,
+            Err(trouble) => println!(rt, "line {number}: {trouble}")?,
+        }
+    }
+    Ok(())
+}
