@@ -1,12 +1,12 @@
 //! The test program: answers each case on its input by the public calls, a line each, for a comparison with what was computed apart from it.
 use crate::answer::Answer;
+use crate::answer::AnswerDisplay;
 use notation::trouble::Trouble;
+use notation::trouble::TroubleDisplay;
 use notation::words::aside;
 use notation::words::word;
 use std::alloc::Global;
 use std::error::AnyError;
-use crate::answer::AnswerDisplay;
-use notation::trouble::TroubleDisplay;
 
 mod answer;
 mod domains;

@@ -2,13 +2,13 @@
 use crate::keywords::keywords;
 use crate::ranges::ranges;
 use crate::trouble::Trouble;
+use crate::trouble::TroubleFromRefusal;
 use crate::words::Words;
 use crate::words::word;
 use api::Coverage;
 use api::Joint;
 use api::Keywords;
 use std::alloc::Global;
-use crate::trouble::TroubleFromRefusal;
 
 /// A kind of domain with a text form.
 pub trait Written: Copy {

@@ -1,9 +1,9 @@
 //! Coverages as text: ranges joined by commas, `65-90,8364`, a lone number being a range of one, and `-` for no range.
 use crate::trouble::Trouble;
+use crate::trouble::TroubleFromRefused;
 use crate::words::digits;
 use api::Range;
 use std::alloc::Global;
-use crate::trouble::TroubleFromRefused;
 
 /// The range that a text says, its ends in any order.
 fn range(text: &str) -> Option<Range> {
