@@ -1,8 +1,8 @@
 //! The kinds of domain, each read by its own form: keywords and coverages from a word, joints from their two domains' words.
 use crate::keywords::keywords;
+use crate::ranges::covered;
 use crate::ranges::ranges;
 use crate::trouble::Trouble;
-use crate::trouble::TroubleFromRefusal;
 use crate::words::Words;
 use crate::words::word;
 use api::Coverage;
@@ -25,7 +25,7 @@ pub impl Written for Keywords as KeywordsWritten {
 pub impl Written for Coverage as CoverageWritten {
     fn read<'a>(heap: Global, words: &mut Words<'a>) -> Result<Coverage, Trouble<'a>> {
         let list = ranges(heap, word(words)?)?;
-        Ok(Coverage::new(list.as_slice())?)
+        covered(list.as_slice())
     }
 }
 

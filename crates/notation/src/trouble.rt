@@ -18,12 +18,6 @@ pub enum Trouble<'a> {
     Memory,
 }
 
-pub impl<'a> From<Refusal> for Trouble<'a> as TroubleFromRefusal {
-    fn from(refusal: Refusal) -> Trouble<'a> {
-        Trouble::Refused(refusal)
-    }
-}
-
 pub impl<'a, T: Drop> From<Refused<T>> for Trouble<'a> as TroubleFromRefused {
     fn from(_error: Refused<T>) -> Trouble<'a> {
         Trouble::Memory
