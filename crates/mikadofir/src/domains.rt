@@ -1,4 +1,10 @@
 //! What an engine lacks of what a maker uses: letters, keywords, or a book with both.
+ghost use mathlib.Core.Path.{_≡_};
+ghost use mathlib.Core.Bool.{cond};
+ghost use Prim.Native.Nat.{ℕ, _-_};
+ghost use lib.Dec.{ltb};
+ghost use Rattle.mikadofir.specs.declared.domains.Member.{Member};
+ghost use Rattle.mikadofir.specs.declared.domains.Member.the-variants.{Keyword, Letter};
 use api::Coverage;
 use api::CoverageDomain;
 use api::Domain;
@@ -44,23 +50,33 @@ impl fmt::Display for Member as MemberDisplay {
 
 /// A kind of domain whose values have names.
 trait Named {
+    // what each value stands for
+    ghost names: { ℕ → Member };
+
     /// What a value stands for.
-    fn member(value: u32) -> Member;
+    fn member(value: u32) -> Member
+        ensures { λ r. ⌜ r ≡ names value ⌝ };
 }
 
 impl Named for Keywords as KeywordsNamed {
+    ghost names = { Keyword };
+
     fn member(value: u32) -> Member {
         Member::Keyword(value)
     }
 }
 
 impl Named for Coverage as CoverageNamed {
+    ghost names = { Letter };
+
     fn member(value: u32) -> Member {
         Member::Letter(value)
     }
 }
 
 impl<L: Named, R: Named> Named for Joint<L, R> as JointNamed {
+    ghost names = { λ v. cond (ltb v 2147483648) (L·Named .names v) (R·Named .names (v - 2147483648)) };
+
     fn member(value: u32) -> Member {
         match value.checked_sub(MIDDLE) {
             Some(right) => R::member(right),
