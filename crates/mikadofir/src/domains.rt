@@ -3,8 +3,10 @@ ghost use mathlib.Core.Path.{_≡_};
 ghost use mathlib.Core.Bool.{cond};
 ghost use Prim.Native.Nat.{ℕ, _-_};
 ghost use lib.Dec.{ltb};
+ghost use denote.Ref.{now};
 ghost use Rattle.mikadofir.specs.declared.domains.Member.{Member};
 ghost use Rattle.mikadofir.specs.declared.domains.Member.the-variants.{Keyword, Letter};
+ghost use Rattle.mikadofir.specs.Lacking.{Lacking};
 use api::Coverage;
 use api::CoverageDomain;
 use api::Domain;
@@ -104,7 +106,17 @@ impl<'a> fmt::Display for Finding<'a> as FindingDisplay {
     }
 }
 
-/// The first member of the domain read first, the maker's, that the one read second, the engine's, has not.
+/// The first member of the maker's domain that the engine's has not, or none where it has them all.
+fn first_lacking<D: Domain + Named>(maker: &D, engine: &D) -> Option<Member>
+    ensures { λ r. ⌜ Lacking (D·Domain .holds (now (maker .entry))) (D·Domain .holds (now (engine .entry))) (D·Named .names) r ⌝ }
+{
+    match maker.gap(engine) {
+        Some(value) => Some(D::member(value)),
+        None => None,
+    }
+}
+
+/// What the second domain read, the engine's, lacks of the first, the maker's.
 fn lacking<'a, D: Domain + Written + Named>(
     heap: Global,
     words: &mut Words<'a>,
@@ -112,10 +124,7 @@ fn lacking<'a, D: Domain + Written + Named>(
     let maker = D::read(heap, words)?;
     let engine = D::read(heap, words)?;
     end(words)?;
-    match maker.gap(&engine) {
-        Some(value) => Ok(Some(D::member(value))),
-        None => Ok(None),
-    }
+    Ok(first_lacking(&maker, &engine))
 }
 
 /// What a line says: a kind, a name, and the two domains' words.
