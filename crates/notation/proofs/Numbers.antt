@@ -18,5 +18,5 @@ checked-from-converted (Err e) P v h = h
 -- the number is read just where the whole text is a numeral that fits
 pub plain-reads : {E : Type 0} (bs : List ℕ) (r : Result ℕ E) → (getD bs 0 0 ≡ 43 → ⊥) → ReadsUnsigned 32 10 bs r → Checked (okPart r) (Numeral 10 bs × (value 10 bs < 2 ^ 32)) (value 10 bs)
 plain-reads bs r no-plus h =
-  checked-from-converted r (Numeral 10 bs × (value 10 bs < 2 ^ 32)) (value 10 bs)
+    checked-from-converted r (Numeral 10 bs × (value 10 bs < 2 ^ 32)) (value 10 bs)
     (subst (λ ds. Converted r (Numeral 10 ds × (value 10 ds < 2 ^ 32)) (value 10 ds)) (afterPlus-none bs no-plus) h)

@@ -11,7 +11,7 @@ use Rattle.notation.proofs.words.digits.Needs as need
 
 pub returns : need.returns
 returns c =
-  let bs = c .args .text .now in
-  let plus = starts-char 43 bs (c .starts-with .result) (c .starts-with .ensures .cases) (omega arith) (omega arith) in
-  subst (λ r. Checked r (Numeral 10 bs × (value 10 bs < 2 ^ 32)) (value 10 bs)) (sym (c .ok .ensures .value))
+    let bs = c .args .text .now in
+    let plus = starts-char 43 bs (c .starts-with .result) (c .starts-with .ensures .cases) (omega arith) (omega arith) in
+    subst (λ r. Checked r (Numeral 10 bs × (value 10 bs < 2 ^ 32)) (value 10 bs)) (sym (c .ok .ensures .value))
     (plain-reads bs (c .parse .result) (λ p. let yes-plus = plus .1 p in search needs) (c .parse .ensures .reads .0))
