@@ -1,43 +1,19 @@
-//! The program.
-use api::Coverage;
-use api::CoverageDomain;
-use api::Domain;
-use api::Joint;
-use api::JointDomain;
-use api::Keywords;
-use api::KeywordsDomain;
-use api::LayerDisplay;
-use api::Range;
-use api::RefusalDisplay;
+//! The program: does the job that lies in the folder it is run in, and prints what took place.
 use std::error::AnyError;
+use std::fs;
+
+mod domains;
+
+/// The job on domains: a line for each pair of a maker's and an engine's.
+const DOMAINS: &'static str = "domains.txt";
+
+/// Does each task in turn.
+fn run(rt: &LibcRuntime) -> Result<(), AnyError> {
+    let job = fs::read_to_string(rt, DOMAINS)?;
+    domains::run(rt, job.as_str())?;
+    Ok(())
+}
 
 fn main(rt: LibcRuntime) -> Result<(), AnyError> {
-    let book = Joint {
-        left: Keywords { bits: 5 },
-        right: Keywords { bits: 7 },
-    };
-    let other = Joint {
-        left: Keywords { bits: 5 },
-        right: Keywords { bits: 3 },
-    };
-    match book.gap(&other) {
-        Some(value) => println!(rt, "lacks {value}")?,
-        None => println!(rt, "none")?,
-    }
-    match Coverage::new(
-        &[
-            Range {
-                first: 65,
-                last: 90,
-            },
-            Range {
-                first: 91,
-                last: 92,
-            },
-        ],
-    ) {
-        Ok(_) => println!(rt, "made")?,
-        Err(refusal) => println!(rt, "refused: {refusal}")?,
-    }
-    Ok(())
+    rt.report(run(&rt))
 }

@@ -1,0 +1,48 @@
+//! The test program: answers each case on its input by the public calls, a line each, for a comparison with what was computed apart from it.
+use crate::answer::Answer;
+use crate::answer::AnswerDisplay;
+use notation::trouble::Trouble;
+use notation::trouble::TroubleDisplay;
+use notation::words::aside;
+use notation::words::word;
+use std::alloc::Global;
+use std::error::AnyError;
+
+mod answer;
+mod domains;
+mod refusals;
+
+/// What a case comes to. Its first word says what is asked, the others of what.
+fn answered<'a>(heap: Global, case: &'a str) -> Result<Answer, Trouble<'a>> {
+    let mut words = case.split_whitespace();
+    let question = word(&mut words)?;
+    match question {
+        "word" => refusals::word(&mut words),
+        "make" => domains::make(heap, &mut words),
+        "has" => domains::ask(heap, domains::Question::Has, &mut words),
+        "least" => domains::ask(heap, domains::Question::Least, &mut words),
+        "gap" => domains::ask(heap, domains::Question::Gap, &mut words),
+        _ => Err(Trouble::Unreadable(question)),
+    }
+}
+
+/// Prints a line for each line of the input: the case with what it comes to, and an aside as it stands.
+fn run(rt: &LibcRuntime) -> Result<(), AnyError> {
+    for line in rt.lines(rt.alloc()) {
+        let line = line?;
+        let case = line.as_str();
+        if aside(case) {
+            println!(rt, "{case}")?;
+            continue;
+        }
+        match answered(rt.alloc(), case) {
+            Ok(answer) => println!(rt, "{case} -> {answer}")?,
+            Err(trouble) => println!(rt, "{case} -> {trouble}")?,
+        }
+    }
+    Ok(())
+}
+
+fn main(rt: LibcRuntime) -> Result<(), AnyError> {
+    rt.report(run(&rt))
+}

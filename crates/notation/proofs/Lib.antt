@@ -1,0 +1,2 @@
+-- The lemmas behind the text forms.
+pub mod Numbers
