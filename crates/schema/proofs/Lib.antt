@@ -1,0 +1,4 @@
+pub mod Bound
+pub mod Domains
+pub mod Searches
+pub mod Sizes

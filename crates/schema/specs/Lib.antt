@@ -1,0 +1,5 @@
+pub mod Automata
+pub mod Below
+pub mod Bindings
+pub mod Faults
+pub mod Tables
