@@ -1,5 +1,8 @@
 //! The one door for callers: the public calls and types, by name, and nothing else.
 
+pub use check::check;
+pub use check::cursor::Cursor;
+pub use codec::item::Level;
 pub use domain::coverage::Coverage;
 pub use domain::coverage::CoverageDomain;
 pub use domain::coverage::Range;
@@ -14,3 +17,4 @@ pub use refusal::fault::Refusal;
 pub use refusal::show::LayerDisplay;
 pub use refusal::show::RefusalDisplay;
 pub use refusal::words::word;
+pub use schema::tables::Schema;
