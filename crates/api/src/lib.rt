@@ -9,6 +9,7 @@ pub use domain::coverage::Range;
 pub use domain::domain::Domain;
 pub use domain::joint::Joint;
 pub use domain::joint::JointDomain;
+pub use domain::joint::MIDDLE;
 pub use domain::keywords::Keywords;
 pub use domain::keywords::KeywordsDomain;
 pub use refusal::fault::Fault;
