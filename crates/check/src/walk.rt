@@ -20,6 +20,12 @@ use refusal::fault::Fault;
 use refusal::fault::Refusal;
 use schema::tested::Tested;
 
+/// Before the root: nothing speaks against the tree yet, and state 0 must accept it.
+const START: Answer = Answer {
+    accepted: true,
+    state: 0,
+};
+
 /// A node's value: its state's domain must have it.
 fn open<D: Domain>(schema: &Tested<D>, answer: Answer, value: u32) -> Answer
     ensures { λ r. ⌜ r ≡ record { accepted = answer .accepted && automaton (tables (now (schema .entry) .measured .schema)) (sets (D·Domain .holds) (now (schema .entry) .measured .schema)) .has (answer .state) value; state = answer .state } ⌝ }
@@ -96,21 +102,15 @@ pub(crate) fn walk<D: Domain>(
 {
     let mut reader = Reader::new(tree);
     let mut pile = Pile::new(levels);
-    let mut answer = Answer {
-        accepted: true,
-        state: 0,
-    };
+    let mut answer = START;
     loop {
         let place = reader.place();
         let top = pile.top();
-        let Some(item) = reader.next(
-            &mut pile,
-            Cursor {
-                state: answer.state,
-                row: 0,
-            },
-        )?
-        else {
+        let at = Cursor {
+            state: answer.state,
+            row: 0,
+        };
+        let Some(item) = reader.next(&mut pile, at)? else {
             break;
         };
         answer = match item {
