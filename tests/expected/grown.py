@@ -113,10 +113,10 @@ def some_schema(kind, symbols, states, most, count, chance):
 
 
 def full_size():
-    """A schema with every count at its limit: 16 rows for each state, the last state's and the last rows among them used."""
+    """A schema with every count at its limit and 16 rows for each state. The odd states may end at once, and come below the even ones."""
     states = []
     for state in range(64):
-        nexts = {a: (state * 5 + a + 1) % 64 for a in range(32) if (state + a) % 4}
+        nexts = {a: (state * 5 + 2 * a + 1) % 64 for a in range(32) if (state + a) % 4}
         rows = [(int(r % 4 == 3 or state % 2 == 1), {a: (r + a) % 10 for a in range(r % 5, 32, 9)}) for r in range(16)]
         states.append((63 - state, nexts, rows))
     return Draft("keywords", 32, [f"{d},{d * 7 % 64}" for d in range(64)], states)
