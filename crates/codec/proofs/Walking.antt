@@ -13,7 +13,7 @@ use Rattle.std.specs.declared.option.Option.the-variants.{Some, None}
 use Rattle.std.specs.declared.result.Result.{Result}
 use Rattle.std.specs.declared.result.Result.the-variants.{Ok, Err}
 use Rattle.std.specs.shelf.Maps.{nth}
-use Rattle.std.proofs.shelf.Lists.{length-set, length-take-le, take-more, take-more-set, drop-drop}
+use Rattle.std.proofs.shelf.Lists.{length-push, length-set, getD-push, length-take-le, take-more, take-more-set, drop-drop}
 use Rattle.std.proofs.shelf.Maps.{nth-getD}
 use Rattle.std.proofs.shelf.Tests.{cases-lt, leb-true, leb-false, lt-ltb, cond-true}
 use Rattle.refusal.specs.declared.fault.Fault.the-variants as fault
@@ -31,6 +31,18 @@ pub part : (input : List ℕ) (p e : ℕ) → p ≤ e → drop p input ≡ take 
 part input p e up =
     let there : p + (e - p) ≡ e = omega arith in
     sym (take-append-drop (e - p) (drop p input)) ∙ ap (λ (l : List ℕ). take (e - p) (drop p input) ++ l) (drop-drop (e - p) p input ∙ ap (λ (n : ℕ). drop n input) there)
+
+pub part-some : (input : List ℕ) (p e : ℕ) (bytes : RefT (List ℕ)) → bytes .now ≡ take (e - p) (drop p input) → p < e → e ≤ length input → 0 < length (bytes .now)
+part-some input p e bytes slice up within =
+    omega (arith, ap length slice ∙ length-take-le (e - p) (drop p input) (omega (arith, length-drop p input)))
+
+-- a pile with a known top
+pub topmost-of : {X : Type 0} (slots : List X) (count : ℕ) (below : List X) (x : X) → count ≤ length slots → entries slots count ≡ below ++ x ∷ [] → topmost slots count ≡ Some x
+topmost-of slots count below x fits split =
+    let long : count ≡ length below + 1 = sym (length-take-le count slots fits) ∙ ap length split ∙ length-push below x in
+    let last : count - 1 ≡ length below = omega arith in
+    ap (λ l. nth l (count - 1)) split ∙ ap (λ (i : ℕ). nth (below ++ x ∷ []) i) last ∙ nth-getD (below ++ x ∷ []) (length below) x (omega (arith, length-push below x))
+    ∙ ap Some (getD-push below x x (length below) refl)
 
 -- the entries of a pile that is not empty are those below the top, and the top
 pub top-split : {X : Type 0} (slots : List X) (count : ℕ) (x : X) → count ≤ length slots → topmost slots count ≡ Some x → (0 < count) × (entries slots count ≡ take (count - 1) slots ++ x ∷ [])
@@ -84,6 +96,7 @@ module _ {S : Type 0} (at : S) (input : List ℕ) (place : ℕ) (fresh : Bool) (
           reads = ap (λ (g : Got ℕ). then g (λ v rest. then (read-number (length input) rest) (λ n rest. got (v, n) rest))) (first .0)
               ∙ ap (λ (g : Got ℕ). then g (λ k rest. got (v, k) rest)) (second .0);
           slice = part input place e (omega (arith, first .1, second .1)) ∙ ap (λ (l : List ℕ). l ++ drop e input) (sym slice);
+          some = part-some input place e bytes slice (omega (arith, first .1, second .1)) (second .2);
           inside = refl;
           deeper = ap (λ (l : List (Level S)). take count′ l) now-slots ∙ ap (λ (k : ℕ). take k (set slots count (record { left = n; at = at }))) now-count ∙ take-more-set slots count _ space;
         };
@@ -135,6 +148,7 @@ module _ {S : Type 0} (at : S) (input : List ℕ) (place : ℕ) (fresh : Bool) (
             more = more;
             reads = reads .0;
             slice = part input place e (omega (arith, reads .1)) ∙ ap (λ (l : List ℕ). l ++ drop e input) (sym slice);
+            some = part-some input place e bytes slice (reads .1) (reads .2);
             next = refl;
             fewer = ap (λ (l : List (Level S)). take count′ l) now-slots ∙ ap (λ (k : ℕ). take k (set slots (count - 1) (record { left = top .left - 1; at = top .at }))) (replaced .same ∙ sym one)
                 ∙ take-more-set slots (count - 1) _ (omega arith);

@@ -36,6 +36,7 @@ module _ {S : Type 0} (end room : ℕ) (at : S) where
     pub space : length (b .levels) < room
     pub reads : read-two end (b .left) ≡ got (v, n) (a .left)
     pub slice : b .left ≡ bytes ++ a .left
+    pub some : 0 < length bytes
     pub inside : a .fresh ≡ false
     pub deeper : a .levels ≡ b .levels ++ (record { left = n; at = at }) ∷ []
 
@@ -48,6 +49,7 @@ module _ {S : Type 0} (end room : ℕ) (at : S) where
     pub more : 0 < top .left
     pub reads : read-number end (b .left) ≡ got s (a .left)
     pub slice : b .left ≡ bytes ++ a .left
+    pub some : 0 < length bytes
     pub next : a .fresh ≡ true
     pub fewer : a .levels ≡ below ++ (record { left = top .left - 1; at = top .at }) ∷ []
 

@@ -7,7 +7,7 @@ ghost use Rattle.domain.specs.Sets.{Smallest};
 use crate::domain::Domain;
 
 /// The first value that the right domain answers for. What either domain has from here on is not in the joint.
-const MIDDLE: u32 = 2_147_483_648;
+pub const MIDDLE: u32 = 2_147_483_648;
 
 /// A left and a right domain, each of any kind.
 #[derive(Clone, Copy)]

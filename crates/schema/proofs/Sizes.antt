@@ -1,15 +1,20 @@
 -- What the test of counts and lengths tells. Assumes nothing.
 use mathlib.Core.Path.{_≡_, refl}
-use mathlib.Core.Bool.{Bool, true, false, not, _&&_, _||_}
+use mathlib.Core.Bool.{Bool, true, false, not, _&&_, _||_, cond}
 use mathlib.Core.List.{List, [], _∷_}
 use Prim.Native.Nat.{ℕ, zero, suc, _+_, _*_, _≤_}
 use native.Mathlib.Omega.{arith}
 use lib.Dec.{leb, eqb}
 use lib.ListN.{length, getD}
-use Rattle.std.specs.Options.{valueOr}
+use Rattle.std.specs.declared.option.Option.{Option}
+use Rattle.std.specs.declared.option.Option.the-variants.{Some, None}
+use Rattle.std.specs.Options.{isSome, valueOr}
+use Rattle.refusal.specs.declared.fault.Refusal.{Refusal}
+use Rattle.refusal.specs.Order.{first-of}
+use Rattle.refusal.specs.declared.fault.Fault.the-variants.{Size, State, Row, Domain}
 use Rattle.std.specs.shelf.Maps.{nth}
-use Rattle.std.proofs.shelf.Tests.{or-parts, not-false, and-parts, leb-true, eqb-true}
-use Rattle.schema.specs.Faults.{outside, size-wrong}
+use Rattle.std.proofs.shelf.Tests.{true≢false, or-parts, not-false, and-parts, leb-true, eqb-true}
+use Rattle.schema.specs.Faults.{outside, size-wrong, at-lowest, table-fault, faulty}
 use Rattle.schema.specs.Tables.{Tables}
 
 -- an entry of a list, or another value past its end
@@ -55,3 +60,19 @@ sized T h =
       state-table = same _ _ (e .0);
       row-table = same _ _ (e .1);
     }
+
+-- tables without a fault have sound counts and lengths
+pub sound-size : (T : Tables) → table-fault T ≡ None → size-wrong T ≡ false
+sound-size T sound = by (size-wrong T) sound
+  where
+    by : (wrong : Bool) → first-of (cond wrong (Some (record { fault = Size; place = 0 })) None ∷ at-lowest T State ∷ at-lowest T Row ∷ at-lowest T Domain ∷ []) ≡ None → wrong ≡ false
+    by true h = absurd (let z : _≡_ {A = ℕ} 0 1 = cc in omega arith)
+    by false h = refl
+
+-- tables that are not faulty have no fault
+pub sound-tables : (T : Tables) → faulty T ≡ false → table-fault T ≡ None
+sound-tables T sound = by (table-fault T) sound
+  where
+    by : (o : Option Refusal) → isSome o ≡ false → o ≡ None
+    by (Some e) h = absurd (true≢false h)
+    by None h = refl

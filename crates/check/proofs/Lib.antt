@@ -1,0 +1,4 @@
+pub mod Midst
+pub mod Outcome
+pub mod Stepping
+pub mod Trees
