@@ -15,6 +15,7 @@ use api::Joint;
 use api::JointDomain;
 use api::Keywords;
 use api::KeywordsDomain;
+use api::MIDDLE;
 use notation::kinds::CoverageWritten;
 use notation::kinds::JointWritten;
 use notation::kinds::KeywordsWritten;
@@ -27,9 +28,6 @@ use std::fmt;
 
 /// A book's keywords stand on the left and its letters on the right.
 pub type Book = Joint<Keywords, Coverage>;
-
-/// The first value of a joint that stands for one of its right domain.
-const MIDDLE: u32 = 2_147_483_648;
 
 /// A value of a domain, as a maker knows it.
 #[derive(Clone, Copy)]
