@@ -1,14 +1,10 @@
-"""What the cases on refusals and domains must come to, from the definitions alone.
-
-    python3 tests/expected/domains.py < crates/cases/stdin > crates/cases/stdout
+"""What the cases on domains must come to, from the definitions alone.
 
 A domain is the set of its members, every one of them written out, so that an answer is read off the set: no rule about
 where a smallest value may lie is used.
 """
-import re
-import sys
-
-from refusals import refused, word
+from refusals import refused
+from text import Trouble, count, number, parts, take
 
 MIDDLE = 2**31
 LAST_CODE_POINT = 1114111
@@ -28,38 +24,9 @@ KINDS = {
 }
 
 
-class Trouble(Exception):
-    """What is printed of a case that has no answer."""
-
-
-def take(words):
-    if not words:
-        raise Trouble("unreadable, a word is missing")
-    return words.pop(0)
-
-
-def end(words):
-    if words:
-        raise Trouble(f"unreadable {words[0]}")
-
-
-def number(text, whole):
-    """The number that a text of digits says; `whole` is the word to complain of."""
-    if not re.fullmatch("[0-9]+", text) or int(text) >= 2**32:
-        raise Trouble(f"unreadable {whole}")
-    return int(text)
-
-
-def parts(text):
-    return [] if text == "-" else text.split(",")
-
-
 def keywords(text):
     """The set of the values, each below 64."""
-    values = {number(part, text) for part in parts(text)}
-    if any(value >= 64 for value in values):
-        raise Trouble(f"unreadable {text}")
-    return values
+    return {number(part, text, 64) for part in parts(text)}
 
 
 def sound(ranges):
@@ -93,9 +60,10 @@ def read(kind, words):
     return {v for v in left if v < MIDDLE} | {MIDDLE + v for v in right if v < MIDDLE}
 
 
-def named(words):
+def named(words, known=KINDS):
+    """The kind that the next word names, where it is a known one."""
     name = take(words)
-    if name not in KINDS:
+    if name not in known:
         raise Trouble(f"unreadable {name}")
     return KINDS[name]
 
@@ -104,42 +72,21 @@ def smallest(values):
     return str(min(values)) if values else "none"
 
 
-def answer(case):
-    """What is printed of a case."""
-    words = case.split()
-    question = take(words)
-    if question == "word":
-        text = take(words)
-        result = word(number(text, text))
-    elif question == "make":
-        coverage(take(words))
-        result = "taken"
-    elif question == "has":
-        domain = read(named(words), words)
-        text = take(words)
-        result = "yes" if number(text, text) in domain else "no"
-    elif question == "least":
-        result = smallest(read(named(words), words))
-    elif question == "gap":
-        kind = named(words)
-        first = read(kind, words)
-        result = smallest(first - read(kind, words))
-    else:
-        raise Trouble(f"unreadable {question}")
-    end(words)
-    return result
+def make(words):
+    coverage(take(words))
+    return "taken"
 
 
-def main():
-    for line in sys.stdin.read().splitlines():
-        if not line.strip() or line.strip().startswith("#"):
-            print(line)
-            continue
-        try:
-            print(f"{line} -> {answer(line)}")
-        except Trouble as trouble:
-            print(f"{line} -> {trouble}")
+def has(words):
+    domain = read(named(words), words)
+    return "yes" if count(words) in domain else "no"
 
 
-if __name__ == "__main__":
-    main()
+def least(words):
+    return smallest(read(named(words), words))
+
+
+def gap(words):
+    kind = named(words)
+    first = read(kind, words)
+    return smallest(first - read(kind, words))

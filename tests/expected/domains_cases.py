@@ -1,9 +1,4 @@
-"""Writes the cases on refusals and domains: those that were thought of, and then some at random from a fixed seed.
-
-    python3 tests/expected/domains_cases.py > crates/cases/stdin
-"""
-import random
-
+"""The cases on refusals and domains: those that were thought of, and then some at random."""
 from domains import KINDS, LAST_CODE_POINT, MIDDLE
 
 ALL = ",".join(str(value) for value in range(64))
@@ -348,11 +343,7 @@ def at_random(chance):
         yield f"make {text([('coverage', ranges)])}"
 
 
-def main():
-    print(THOUGHT_OF.strip())
-    for line in at_random(random.Random(64)):
-        print(line)
-
-
-if __name__ == "__main__":
-    main()
+def lines(chance):
+    """Every case on refusals and domains."""
+    yield THOUGHT_OF.strip()
+    yield from at_random(chance)

@@ -8,6 +8,8 @@ pub enum Answer {
     Word(&'static str),
     /// What was asked for was made.
     Taken,
+    /// What was said is known to the cases after it.
+    Read,
     /// Whether something holds.
     Truth(bool),
     /// A value, or none.
@@ -20,6 +22,7 @@ pub impl fmt::Display for Answer as AnswerDisplay {
             Answer::Word("") => write!(f, "no letters"),
             Answer::Word(letters) => write!(f, "{letters}"),
             Answer::Taken => write!(f, "taken"),
+            Answer::Read => write!(f, "read"),
             Answer::Truth(true) => write!(f, "yes"),
             Answer::Truth(false) => write!(f, "no"),
             Answer::Value(Some(value)) => write!(f, "{value}"),

@@ -19,7 +19,7 @@ use notation::words::word;
 use std::alloc::Global;
 
 /// Keywords on the left and letters on the right.
-type Book = Joint<Keywords, Coverage>;
+pub type Book = Joint<Keywords, Coverage>;
 
 /// A book with its halves exchanged.
 type Mirror = Joint<Coverage, Keywords>;

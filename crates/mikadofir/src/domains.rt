@@ -1,4 +1,4 @@
-//! What an engine lacks of what a maker uses: letters, keywords, or a book with both.
+//! What an engine lacks of what a maker uses: `letters`, `keywords` or a `book` with both, the maker's domain before the engine's.
 ghost use mathlib.Core.Path.{_≡_};
 ghost use mathlib.Core.Bool.{cond};
 ghost use Prim.Native.Nat.{ℕ, _-_};
@@ -7,6 +7,7 @@ ghost use denote.Ref.{now};
 ghost use Rattle.mikadofir.specs.declared.domains.Member.{Member};
 ghost use Rattle.mikadofir.specs.declared.domains.Member.the-variants.{Keyword, Letter};
 ghost use Rattle.mikadofir.specs.Lacking.{Lacking};
+use crate::job::Task;
 use api::Coverage;
 use api::CoverageDomain;
 use api::Domain;
@@ -14,25 +15,19 @@ use api::Joint;
 use api::JointDomain;
 use api::Keywords;
 use api::KeywordsDomain;
+use api::MIDDLE;
 use notation::kinds::CoverageWritten;
 use notation::kinds::JointWritten;
 use notation::kinds::KeywordsWritten;
 use notation::kinds::Written;
 use notation::trouble::Trouble;
-use notation::trouble::TroubleDisplay;
 use notation::words::Words;
-use notation::words::aside;
 use notation::words::end;
-use notation::words::word;
 use std::alloc::Global;
 use std::fmt;
-use std::io;
 
 /// A book's keywords stand on the left and its letters on the right.
-type Book = Joint<Keywords, Coverage>;
-
-/// The first value of a joint that stands for one of its right domain.
-const MIDDLE: u32 = 2_147_483_648;
+pub type Book = Joint<Keywords, Coverage>;
 
 /// A value of a domain, as a maker knows it.
 #[derive(Clone, Copy)]
@@ -87,21 +82,15 @@ impl<L: Named, R: Named> Named for Joint<L, R> as JointNamed {
     }
 }
 
-/// What a line of the job comes to.
+/// What the engine lacks, if anything.
 #[derive(Clone, Copy)]
-struct Finding<'a> {
-    kind: &'a str,
-    name: &'a str,
-    lack: Option<Member>,
-}
+pub struct Lack(Option<Member>);
 
-impl<'a> fmt::Display for Finding<'a> as FindingDisplay {
+pub impl fmt::Display for Lack as LackDisplay {
     fn fmt<W: fmt::Write>(&self, f: &mut fmt::Formatter<W>) -> fmt::Result {
-        let kind = self.kind;
-        let name = self.name;
-        match self.lack {
-            Some(member) => write!(f, "{kind} {name}: the engine lacks {member}"),
-            None => write!(f, "{kind} {name}: nothing is lacking"),
+        match self.0 {
+            Some(member) => write!(f, "the engine lacks {member}"),
+            None => write!(f, "nothing is lacking"),
         }
     }
 }
@@ -120,38 +109,31 @@ fn first_lacking<D: Domain + Named>(maker: &D, engine: &D) -> Option<Member>
 fn lacking<'a, D: Domain + Written + Named>(
     heap: Global,
     words: &mut Words<'a>,
-) -> Result<Option<Member>, Trouble<'a>> {
+) -> Result<Lack, Trouble<'a>> {
     let maker = D::read(heap, words)?;
     let engine = D::read(heap, words)?;
     end(words)?;
-    Ok(first_lacking(&maker, &engine))
+    Ok(Lack(first_lacking(&maker, &engine)))
 }
 
-/// What a line says: a kind, a name, and the two domains' words.
-fn found<'a>(heap: Global, line: &'a str) -> Result<Finding<'a>, Trouble<'a>> {
-    let mut words = line.split_whitespace();
-    let kind = word(&mut words)?;
-    let name = word(&mut words)?;
-    let lack = match kind {
-        "letters" => lacking::<Coverage>(heap, &mut words)?,
-        "keywords" => lacking::<Keywords>(heap, &mut words)?,
-        "book" => lacking::<Book>(heap, &mut words)?,
-        _ => return Err(Trouble::Unreadable(kind)),
-    };
-    Ok(Finding { kind, name, lack })
-}
+/// The task.
+#[derive(Clone, Copy)]
+pub struct Domains;
 
-/// Does the job and prints a line for each of its lines. One that is refused or unreadable does not stop it.
-pub fn run(rt: &LibcRuntime, job: &str) -> io::Result<()> {
-    for (index, line) in job.lines().enumerate() {
-        if aside(line) {
-            continue;
-        }
-        let number = index + 1;
-        match found(rt.alloc(), line) {
-            Ok(finding) => println!(rt, "line {number}: {finding}")?,
-            Err(trouble) => println!(rt, "line {number}: {trouble}")?,
+pub impl Task for Domains as DomainsTask {
+    type Outcome = Lack;
+
+    fn outcome<'a>(
+        &mut self,
+        heap: Global,
+        kind: &'a str,
+        words: &mut Words<'a>,
+    ) -> Result<Lack, Trouble<'a>> {
+        match kind {
+            "letters" => lacking::<Coverage>(heap, words),
+            "keywords" => lacking::<Keywords>(heap, words),
+            "book" => lacking::<Book>(heap, words),
+            _ => Err(Trouble::Unreadable(kind)),
         }
     }
-    Ok(())
 }

@@ -1,16 +1,26 @@
-//! The program: does the job that lies in the folder it is run in, and prints what took place.
+//! The program: does the jobs that lie in the folder it is run in, one after the other, and prints what took place.
+use crate::domains::Domains;
+use crate::domains::DomainsTask;
+use crate::domains::LackDisplay;
+use crate::trees::OutcomeDisplay;
+use crate::trees::Trees;
+use crate::trees::TreesTask;
 use std::error::AnyError;
-use std::fs;
 
 mod domains;
+mod job;
+mod trees;
 
 /// The job on domains: a line for each pair of a maker's and an engine's.
 const DOMAINS: &'static str = "domains.txt";
 
+/// The job on trees: a line for each schema and each tree.
+const TREES: &'static str = "trees.txt";
+
 /// Does each task in turn.
 fn run(rt: &LibcRuntime) -> Result<(), AnyError> {
-    let job = fs::read_to_string(rt, DOMAINS)?;
-    domains::run(rt, job.as_str())?;
+    job::run(rt, &mut Domains, DOMAINS)?;
+    job::run(rt, &mut Trees::new(), TREES)?;
     Ok(())
 }
 

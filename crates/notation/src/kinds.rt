@@ -1,7 +1,8 @@
 //! The kinds of domain, each read by its own form: keywords and coverages from a word, joints from their two domains' words.
 use crate::keywords::keywords;
+use crate::lists::list;
+use crate::ranges::RangePart;
 use crate::ranges::covered;
-use crate::ranges::ranges;
 use crate::trouble::Trouble;
 use crate::words::Words;
 use crate::words::word;
@@ -24,8 +25,8 @@ pub impl Written for Keywords as KeywordsWritten {
 
 pub impl Written for Coverage as CoverageWritten {
     fn read<'a>(heap: Global, words: &mut Words<'a>) -> Result<Coverage, Trouble<'a>> {
-        let list = ranges(heap, word(words)?)?;
-        covered(list.as_slice())
+        let ranges = list(heap, word(words)?)?;
+        covered(ranges.as_slice())
     }
 }
 

@@ -1,7 +1,8 @@
-//! Why a text gave no domain: it says none, it says one that is refused, or memory is gone.
+//! Why a text came to nothing: it says nothing that is read there, what it says is refused, or memory is gone.
 use api::LayerDisplay;
 use api::Refusal;
 use api::RefusalDisplay;
+use std::alloc::AllocError;
 use std::alloc::Refused;
 use std::fmt;
 
@@ -12,7 +13,7 @@ pub enum Trouble<'a> {
     Unreadable(&'a str),
     /// The text ends where another word is wanted.
     Ended,
-    /// The text is of the right form, and what it says may not be made.
+    /// The text is of the right form, and the call on what it says was refused.
     Refused(Refusal),
     /// There is no memory for what the text says.
     Memory,
@@ -20,6 +21,12 @@ pub enum Trouble<'a> {
 
 pub impl<'a, T: Drop> From<Refused<T>> for Trouble<'a> as TroubleFromRefused {
     fn from(_error: Refused<T>) -> Trouble<'a> {
+        Trouble::Memory
+    }
+}
+
+pub impl<'a> From<AllocError> for Trouble<'a> as TroubleFromAllocError {
+    fn from(_error: AllocError) -> Trouble<'a> {
         Trouble::Memory
     }
 }
