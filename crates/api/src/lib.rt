@@ -18,4 +18,5 @@ pub use refusal::fault::Refusal;
 pub use refusal::show::LayerDisplay;
 pub use refusal::show::RefusalDisplay;
 pub use refusal::words::word;
+pub use schema::live::live;
 pub use schema::tables::Schema;

@@ -1,14 +1,14 @@
 -- The binary digits of a number: the lowest that is set, and those of `a & !b`. Assumes nothing.
 use mathlib.Core.Path.{_≡_, refl, sym, ap, subst, _∙_}
-use mathlib.Core.Bool.{Bool, true, false, not, _&&_}
+use mathlib.Core.Bool.{Bool, true, false, not, _&&_, cond}
 use mathlib.Core.Logic.{⊎-elim}
-use Prim.Native.Nat.{ℕ, zero, suc, _+_, _-_, _*_, _/_, _%_, _^_, _<_, _≤_, min}
+use Prim.Native.Nat.{ℕ, zero, suc, _+_, _-_, _*_, _/_, _%_, _^_, _<_, _≤_, min, max}
 use native.Mathlib.Nat.{pow-zero, pow-suc, div-one, div-add-mod'}
 use native.Mathlib.Numerals.{one-add}
 use native.Mathlib.Omega.{arith}
-use lib.Bits.{bitAnd, and-mask, and-shr, and-step}
+use lib.Bits.{bitAnd, bitOr, and-shr, and-step, or-shr, or-step}
 use lib.Count.{trailingZeros, under}
-use lib.Dec.{ltb, eqb}
+use lib.Dec.{ltb, eqb, eqb·zero-suc, eqb·suc-zero, eqb·suc-suc}
 use Rattle.std.proofs.shelf.Tests.{and-from, and-right, lt-ltb, eq-eqb, ne-eqb, cases-lt}
 use Rattle.std.proofs.shelf.Bits.{shr-shr, shr-below, mod-below}
 use Rattle.std.proofs.shelf.Ways.{tells}
@@ -19,10 +19,10 @@ use Rattle.domain.specs.Sets.{First, alone}
 abbrev pub digit : ℕ → ℕ → ℕ
 digit n i = n / 2 ^ i % 2
 
-digit-zero : (n : ℕ) → digit n 0 ≡ n % 2
+pub digit-zero : (n : ℕ) → digit n 0 ≡ n % 2
 digit-zero n = ap (λ (x : ℕ). n / x % 2) (pow-zero 2) ∙ ap (λ (x : ℕ). x % 2) (div-one n)
 
-digit-suc : (n i : ℕ) → digit n (suc i) ≡ digit (n / 2) i
+pub digit-suc : (n i : ℕ) → digit n (suc i) ≡ digit (n / 2) i
 digit-suc n i = ap (λ (x : ℕ). n / 2 ^ x % 2) (sym (one-add i)) ∙ ap (λ (x : ℕ). x % 2) (sym (shr-shr n 1 i))
 
 -- m is the lowest place below k where n has the digit 1
@@ -67,6 +67,25 @@ digit-and : (a b i : ℕ) → digit (bitAnd a b) i ≡ min (digit a i) (digit b 
 digit-and a b i =
     let step = and-step (a / 2 ^ i) (b / 2 ^ i) in
     ap (λ (x : ℕ). x % 2) (and-shr a b i) ∙ omega (arith, step, mod-below (a / 2 ^ i) 2 (omega arith), mod-below (b / 2 ^ i) 2 (omega arith))
+
+-- a digit of `a | b` is set where one of the two is
+pub digit-or : (a b i : ℕ) → digit (bitOr a b) i ≡ max (digit a i) (digit b i)
+digit-or a b i =
+    let step = or-step (a / 2 ^ i) (b / 2 ^ i) in
+    ap (λ (x : ℕ). x % 2) (or-shr a b i) ∙ omega (arith, step, mod-below (a / 2 ^ i) 2 (omega arith), mod-below (b / 2 ^ i) 2 (omega arith))
+
+-- a power of two has one digit
+pub digit-power : (k i : ℕ) → digit (2 ^ k) i ≡ cond (eqb k i) 1 0
+digit-power zero zero = refl
+digit-power zero (suc i) = digit-suc 1 i ∙ none i ∙ ap (λ (b : Bool). cond b 1 0) (sym (eqb·zero-suc i))
+  where
+    none : (i : ℕ) → digit 0 i ≡ 0
+    none zero = digit-zero 0
+    none (suc i) = digit-suc 0 i ∙ none i
+digit-power (suc k) zero = digit-zero (2 ^ suc k) ∙ omega (arith, pow-suc 2 k) ∙ ap (λ (b : Bool). cond b 1 0) (sym (eqb·suc-zero k))
+digit-power (suc k) (suc i) =
+    let half : 2 ^ suc k / 2 ≡ 2 ^ k = omega (arith, pow-suc 2 k) in
+    digit-suc (2 ^ suc k) i ∙ ap (λ (n : ℕ). digit n i) half ∙ digit-power k i ∙ ap (λ (b : Bool). cond b 1 0) (sym (eqb·suc-suc k i))
 
 -- a digit of the complement is the other one
 digit-other : (k b i : ℕ) → i < k → b < 2 ^ k → digit (2 ^ k - 1 - b) i + digit b i ≡ 1

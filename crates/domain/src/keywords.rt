@@ -3,7 +3,7 @@ ghost use mathlib.Core.Path.{_≡_};
 ghost use mathlib.Core.Bool.{Bool};
 ghost use Prim.Native.Nat.{ℕ};
 ghost use Rattle.domain.specs.Kinds.{«in-bits», «has-keyword»};
-ghost use Rattle.domain.specs.Sets.{Smallest};
+ghost use Rattle.domain.specs.Sets.{Smallest, alone};
 use crate::domain::Domain;
 
 /// A set of values below 64, one a bit, bit 0 the lowest.
@@ -23,6 +23,13 @@ fn lowest(bits: u64) -> Option<u32>
     }
 }
 
+/// The lowest bit that is set in the first number alone, or none.
+pub fn lowest_alone(first: u64, second: u64) -> Option<u32>
+    ensures { λ r. ⌜ Smallest (alone (in-bits first) (in-bits second)) r ⌝ }
+{
+    lowest(first & !second)
+}
+
 pub impl Domain for Keywords as KeywordsDomain {
     ghost holds = { has-keyword };
 
@@ -35,6 +42,6 @@ pub impl Domain for Keywords as KeywordsDomain {
     }
 
     fn gap(&self, other: &Keywords) -> Option<u32> {
-        lowest(self.bits & !other.bits)
+        lowest_alone(self.bits, other.bits)
     }
 }

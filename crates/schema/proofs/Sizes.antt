@@ -27,7 +27,7 @@ pub record Within (low high n : ℕ) : Type 0 where
   pub from : low ≤ n
   pub to : n ≤ high
 
-inside : (low high n : ℕ) → outside low high n ≡ false → Within low high n
+pub inside : (low high n : ℕ) → outside low high n ≡ false → Within low high n
 inside low high n h = let p = and-parts _ _ (not-false (leb low n && leb n high) h) in record { from = leb-true low n (p .0); to = leb-true n high (p .1) }
 
 same : (m n : ℕ) → not (eqb m n) ≡ false → m ≡ n

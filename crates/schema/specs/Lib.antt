@@ -2,4 +2,6 @@ pub mod Automata
 pub mod Below
 pub mod Bindings
 pub mod Faults
+pub mod Live
+pub mod Rows
 pub mod Tables
