@@ -7,6 +7,7 @@ ghost use Rattle.std.specs.Results.{Cases};
 ghost use Rattle.std.specs.declared.option.Option.the-variants.{Some};
 ghost use Rattle.domain.specs.Kinds.{bit};
 ghost use Rattle.domain.specs.Sets.{Smallest};
+ghost use Rattle.schema.specs.Examples.{«Leads-back-dead»};
 ghost use Rattle.schema.specs.Faults.{«table-fault»};
 ghost use Rattle.schema.specs.Live.{New, «Live-mask»};
 ghost use Rattle.schema.specs.Tables.{tables, sets, automaton};
@@ -74,7 +75,8 @@ impl<D: Domain> Tested<'_, D> {
 
 /// The states that accept a finite tree, as a mask: bit i for state i, and no bit past the states; or the refusal of the tables.
 pub fn live<D: Domain>(schema: &Schema<D>) -> Result<u64, Refusal>
-    ensures { λ r. ⌜ Cases r (Live-mask (automaton (tables (now (schema .entry))) (sets (D·Domain .holds) (now (schema .entry)))) (now (schema .entry) .states)) (λ e. table-fault (tables (now (schema .entry))) ≡ Some e) ⌝ }
+    ensures answer { λ r. ⌜ Cases r (Live-mask (automaton (tables (now (schema .entry))) (sets (D·Domain .holds) (now (schema .entry)))) (now (schema .entry) .states)) (λ e. table-fault (tables (now (schema .entry))) ≡ Some e) ⌝ }
+    ensures example { λ _. ⌜ Leads-back-dead ⌝ }
 {
     let tested = Tested::new(schema)?;
     Ok(tested.live_states())
