@@ -20,6 +20,7 @@ def main():
         "gap": domains.gap,
         "schema": shelf.define,
         "check": shelf.check,
+        "live": shelf.live,
     }
 
     def answer(line):

@@ -5,6 +5,7 @@
 import random
 
 import domains_cases
+import live_cases
 import trees_cases
 
 
@@ -13,6 +14,9 @@ def main():
         print(line)
     print()
     for line in trees_cases.lines(random.Random(1024)):
+        print(line)
+    print()
+    for line in live_cases.lines(random.Random(2)):
         print(line)
 
 

@@ -2,6 +2,7 @@
 from copy import deepcopy
 
 from schemas import NONE
+from text import joined
 
 
 class Draft:
@@ -50,11 +51,11 @@ class Draft:
         return " ".join(str(word) for word in words)
 
 
-def joined(numbers):
-    """A list as text."""
-    return ",".join(str(number) for number in numbers) or "-"
-
-
 def check(name, data, levels=8):
     """The case that checks a tree's bytes."""
     return f"check {name} {joined(data)} {levels}"
+
+
+def live(name):
+    """The case that asks for a schema's live states."""
+    return f"live {name}"

@@ -7,8 +7,8 @@ from pathlib import Path
 
 from domains import KINDS, MIDDLE, read
 from schemas import Schema
-from text import Trouble, aside, end, table, take
-from trees import checked
+from text import Trouble, aside, end, joined, table, take
+from trees import checked, live_states
 
 LEVELS = 8
 
@@ -47,9 +47,20 @@ class Trees:
         return checked(self.schema, data, LEVELS)
 
 
+def split(kind, words):
+    """The live and the dead states of a schema."""
+    if kind != "schema":
+        raise Trouble(f"unreadable {kind}")
+    schema = Schema(KINDS["book"], words)
+    end(words)
+    live = live_states(schema)
+    dead = [state for state in range(schema.states) if state not in live]
+    return f"live {joined(live)}; dead {joined(dead)}"
+
+
 def main():
     folder = Path(sys.argv[1])
-    for file, task in (("domains.txt", lacking), ("trees.txt", Trees().line)):
+    for file, task in (("domains.txt", lacking), ("trees.txt", Trees().line), ("live.txt", split)):
         print(file)
         for number, line in enumerate((folder / file).read_text().splitlines(), 1):
             if aside(line):

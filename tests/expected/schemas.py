@@ -82,3 +82,26 @@ class Schema:
         if not self.allows(state, [symbol for symbol, _ in children]):
             return False
         return all(self.accepts(self.nexts(state)[symbol], child) for symbol, child in children)
+
+    def has_sequence(self, state, below):
+        """Whether the state allows a sequence that leads into these states alone: a search through its rows."""
+        own, nexts = self.own(state), self.nexts(state)
+        symbols = [symbol for symbol in range(self.symbols) if nexts[symbol] in below]
+        seen, waiting = {0}, [0]
+        while waiting:
+            row = waiting.pop()
+            if own[row][0] == 1:
+                return True
+            further = {own[row][1 + symbol] for symbol in symbols} - {NONE} - seen
+            seen |= further
+            waiting += further
+        return False
+
+    def live(self):
+        """The states that accept a tree: of no level, of at most one, of at most two, until a level more adds none."""
+        lower = set()
+        while True:
+            states = {q for q in range(self.states) if self.domains[self.about(q)[0]] and self.has_sequence(q, lower)}
+            if states == lower:
+                return states
+            lower = states

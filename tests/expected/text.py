@@ -37,6 +37,11 @@ def parts(text):
     return [] if text == "-" else text.split(",")
 
 
+def joined(numbers):
+    """A list as text."""
+    return ",".join(str(number) for number in numbers) or "-"
+
+
 def table(words):
     """The bytes that the next word says."""
     text = take(words)

@@ -4,7 +4,7 @@ import sys
 from domains import named
 from refusals import refused
 from schemas import Schema
-from text import Trouble, count, end, table, take
+from text import Trouble, count, end, joined, table, take
 
 # A tree is as deep as the cases make it, and each level of it is a call here.
 sys.setrecursionlimit(100000)
@@ -81,6 +81,14 @@ def checked(schema, data, levels):
     return "yes" if schema.accepts(0, tree) else "no"
 
 
+def live_states(schema):
+    """The schema's live states, in order."""
+    fault = schema.fault()
+    if fault:
+        raise Trouble(refused(*fault))
+    return sorted(schema.live())
+
+
 class Shelf:
     """The schemas defined so far, by name."""
 
@@ -95,10 +103,20 @@ class Shelf:
         self.schemas[name] = schema
         return "read"
 
-    def check(self, words):
+    def find(self, words):
         name = take(words)
         if name not in self.schemas:
             raise Trouble(f"unreadable {name}")
+        return self.schemas[name]
+
+    def check(self, words):
+        schema = self.find(words)
         data, levels = table(words), count(words)
         end(words)
-        return checked(self.schemas[name], data, levels)
+        return checked(schema, data, levels)
+
+    def live(self, words):
+        schema = self.find(words)
+        end(words)
+        states = live_states(schema)
+        return f"states {joined(states)}" if states else "no states"

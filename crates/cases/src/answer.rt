@@ -1,4 +1,6 @@
 //! What a case comes to, and how it is printed.
+use notation::states::States;
+use notation::states::StatesDisplay;
 use std::fmt;
 
 /// The answer to a case.
@@ -14,6 +16,8 @@ pub enum Answer {
     Truth(bool),
     /// A value, or none.
     Value(Option<u32>),
+    /// States, one a bit.
+    States(u64),
 }
 
 pub impl fmt::Display for Answer as AnswerDisplay {
@@ -27,6 +31,8 @@ pub impl fmt::Display for Answer as AnswerDisplay {
             Answer::Truth(false) => write!(f, "no"),
             Answer::Value(Some(value)) => write!(f, "{value}"),
             Answer::Value(None) => write!(f, "none"),
+            Answer::States(0) => write!(f, "no states"),
+            Answer::States(states) => write!(f, "states {}", States(states)),
         }
     }
 }

@@ -28,6 +28,7 @@ fn answered<'a>(heap: Global, shelf: &mut Shelf, case: &'a str) -> Result<Answer
         "gap" => domains::ask(heap, domains::Question::Gap, &mut words),
         "schema" => shelf.define(heap, &mut words),
         "check" => shelf.check(heap, &mut words),
+        "live" => shelf.live(&mut words),
         _ => Err(Trouble::Unreadable(question)),
     }
 }

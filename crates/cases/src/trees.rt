@@ -1,4 +1,4 @@
-//! Cases on trees: `schema NAME KIND TABLES`, which names a schema for the cases after it, and `check NAME BYTES LEVELS`.
+//! Cases on trees: `schema NAME KIND TABLES`, which names a schema for the cases after it, `check NAME BYTES LEVELS` and `live NAME`.
 use crate::answer::Answer;
 use crate::domains::Book;
 use api::Coverage;
@@ -70,6 +70,14 @@ fn put<'a, D: Domain>(
     }
 }
 
+/// The states of the schema of the tables that accept a tree.
+fn alive<'a, D: Domain>(tables: &Tables<D>) -> Result<Answer, Trouble<'a>> {
+    match api::live(&tables.schema()) {
+        Ok(states) => Ok(Answer::States(states)),
+        Err(refusal) => Err(Trouble::Refused(refusal)),
+    }
+}
+
 impl Shelf {
     /// No schemas.
     pub fn new(heap: Global) -> Shelf {
@@ -78,14 +86,15 @@ impl Shelf {
         }
     }
 
-    /// The schema that was last given this name.
-    fn find(&self, name: &str) -> Option<&Kinded> {
+    /// The schema that was last given the name of the next word.
+    fn find<'a>(&self, words: &mut Words<'a>) -> Result<&Kinded, Trouble<'a>> {
+        let name = word(words)?;
         for entry in self.entries.iter().rev() {
             if entry.name.as_str() == name {
-                return Some(&entry.tables);
+                return Ok(&entry.tables);
             }
         }
-        None
+        Err(Trouble::Unreadable(name))
     }
 
     /// Puts a schema under its name. Whether its tables are sound is asked where it is used.
@@ -103,8 +112,7 @@ impl Shelf {
 
     /// Whether a schema accepts a tree, with so many levels for it.
     pub fn check<'a>(&self, heap: Global, words: &mut Words<'a>) -> Result<Answer, Trouble<'a>> {
-        let name = word(words)?;
-        let tables = self.find(name).ok_or(Trouble::Unreadable(name))?;
+        let tables = self.find(words)?;
         let tree = bytes(heap, words)?;
         let mut levels = levels(heap, number(words)? as usize)?;
         end(words)?;
@@ -112,6 +120,17 @@ impl Shelf {
             Kinded::Keywords(tables) => put(tables, tree.as_slice(), levels.as_mut_slice()),
             Kinded::Coverage(tables) => put(tables, tree.as_slice(), levels.as_mut_slice()),
             Kinded::Book(tables) => put(tables, tree.as_slice(), levels.as_mut_slice()),
+        }
+    }
+
+    /// The states of a schema that accept a tree.
+    pub fn live<'a>(&self, words: &mut Words<'a>) -> Result<Answer, Trouble<'a>> {
+        let tables = self.find(words)?;
+        end(words)?;
+        match tables {
+            Kinded::Keywords(tables) => alive(tables),
+            Kinded::Coverage(tables) => alive(tables),
+            Kinded::Book(tables) => alive(tables),
         }
     }
 }

@@ -1,4 +1,4 @@
-//! The text forms that the programs read, words split at blanks: domains, schemas and bytes.
+//! The text forms of the programs, words split at blanks: domains, schemas, bytes, and sets of states as they are printed.
 
 pub mod bytes;
 pub mod keywords;
@@ -7,5 +7,6 @@ pub mod levels;
 pub mod lists;
 pub mod ranges;
 pub mod schemas;
+pub mod states;
 pub mod trouble;
 pub mod words;
