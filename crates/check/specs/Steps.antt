@@ -22,6 +22,7 @@ both-known (Some r) (Some q) before f slots count after slots′ = (after ≡ re
 both-known (Some r) None before f slots count after slots′ = (after ≡ record { accepted = false; state = before .state }) × (slots′ ≡ slots)
 both-known None o before f slots count after slots′ = (after ≡ record { accepted = false; state = before .state }) × (slots′ ≡ slots)
 
+-- one symbol more at the node on top, with what it leaves of the answer and the slots; without a node on top the answer is no
 abbrev pub Steps-on : Automaton → ℕ → Answer → Option (Level Cursor) → List (Level Cursor) → ℕ → Answer → List (Level Cursor) → Type 0
 Steps-on A a before (Some f) slots count after slots′ = both-known (A .step (f .at .state) (f .at .row) a) (A .next (f .at .state) a) before f slots count after slots′
 Steps-on A a before None slots count after slots′ = (after ≡ record { accepted = false; state = before .state }) × (slots′ ≡ slots)

@@ -32,6 +32,7 @@ abbrev pub above : ℕ → Got ℕ → Got ℕ
 above low (got high rest) = got (low + 128 * high) rest
 above low (stop e) = stop e
 
+-- reading stops at a fault with its place
 abbrev pub refused : {X : Type 0} → fault.the-data → ℕ → Got X
 refused f p = stop (record { fault = f; place = p })
 
@@ -61,6 +62,7 @@ pub record Written (output : List ℕ) (p : ℕ) (bytes : List ℕ) (next : ℕ)
   pub next-place : next ≡ p + length bytes
   pub after : output′ ≡ take p output ++ (bytes ++ drop (p + length bytes) output)
 
+-- what writing bytes at a place answers and leaves in the output
 abbrev pub Writes : List ℕ → ℕ → List ℕ → Option ℕ → List ℕ → Type 0
 Writes output p bytes (Some next) output′ = Written output p bytes next output′
 Writes output p bytes None output′ = (length output < p + length bytes) × (output′ ≡ output)

@@ -2,6 +2,7 @@
 use mathlib.Core.List.{List, [], _∷_}
 use Prim.Native.Nat.{ℕ, suc, _+_, max}
 
+-- a tree is a node with its value and its children, and children come one after the other, each with its symbol
 mutual
   pub data Tree : Type 0 where
     node : ℕ → Children → Tree

@@ -31,6 +31,7 @@ module _ (T : Tables) where
   abbrev pub lengths-wrong : Bool
   lengths-wrong = not (eqb (length (T .transitions)) (T .states * T .symbols)) || (not (eqb (length (T .state-table)) (4 * T .states)) || not (eqb (length (T .row-table)) (T .rows * (T .symbols + 1))))
 
+  -- the counts or the lengths are wrong
   abbrev pub size-wrong : Bool
   size-wrong = counts-wrong || lengths-wrong
 

@@ -48,12 +48,15 @@ module _ (T : Tables) where
   abbrev pub state-byte : ℕ → ℕ → ℕ
   state-byte q i = getD (T .state-table) (4 * q + i) 0
 
+  -- which domain the state has
   abbrev pub domain-number : ℕ → ℕ
   domain-number q = state-byte q 0
 
+  -- how many rows the state has
   abbrev pub row-count : ℕ → ℕ
   row-count q = state-byte q 1
 
+  -- where the state's rows begin, low byte first
   abbrev pub first-row : ℕ → ℕ
   first-row q = state-byte q 2 + 256 * state-byte q 3
 
@@ -61,9 +64,11 @@ module _ (T : Tables) where
   abbrev pub row-start : ℕ → ℕ → ℕ
   row-start q r = (first-row q + r) * (T .symbols + 1)
 
+  -- 1 where a sequence may end at row r, 0 where not
   abbrev pub end-mark : ℕ → ℕ → ℕ
   end-mark q r = getD (T .row-table) (row-start q r) 0
 
+  -- the row after row r under symbol a, counted from the state's first, or 255
   abbrev pub row-byte : ℕ → ℕ → ℕ → ℕ
   row-byte q r a = getD (T .row-table) (row-start q r + 1 + a) 255
 
