@@ -1,10 +1,10 @@
 -- Live states: those that accept some finite tree. Assumes nothing.
 use mathlib.Core.Path.{_≡_}
 use mathlib.Core.Bool.{Bool, true, false}
-use Prim.Native.Nat.{ℕ, _<_}
+use Prim.Native.Nat.{ℕ, _<_, _≤_}
 use Rattle.std.specs.Orderings.{Decides}
 use Rattle.std.specs.shelf.Lists.{All}
-use Rattle.codec.specs.Trees.{Tree}
+use Rattle.codec.specs.Trees.{Tree, height}
 use Rattle.domain.specs.Kinds.{bit}
 use Rattle.schema.specs.Automata.{Automaton, passes, accepts}
 use Rattle.schema.specs.Rows.{Runs-over}
@@ -25,3 +25,11 @@ module _ (A : Automaton) where
   -- bit q of the mask is set exactly for the live states below n
   abbrev pub Live-mask : ℕ → ℕ → Type 0
   Live-mask n mask = (q : ℕ) → Decides (bit mask q) ((q < n) × Live q)
+
+  -- the rank of a state: the least height of a tree that it accepts
+  abbrev pub Rank : ℕ → ℕ → Type 0
+  Rank q m = ((t : Tree) × (accepts A q t ≡ true) × (height t ≡ m)) × ((t : Tree) → accepts A q t ≡ true → m ≤ height t)
+
+  -- bit q of the mask is set exactly for the states below n that have a rank, which is below 64
+  abbrev pub Rank-mask : ℕ → ℕ → Type 0
+  Rank-mask n mask = (q : ℕ) → Decides (bit mask q) ((q < n) × ((m : ℕ) × (m < 64) × Rank q m))

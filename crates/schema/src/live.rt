@@ -4,12 +4,13 @@ ghost use mathlib.Core.Bool.{true};
 ghost use Prim.Native.Nat.{ℕ, _<_};
 ghost use Rattle.std.specs.Orderings.{Decides};
 ghost use Rattle.std.specs.Results.{Cases};
+ghost use Rattle.std.specs.Vec.{made};
 ghost use Rattle.std.specs.declared.option.Option.the-variants.{Some};
 ghost use Rattle.domain.specs.Kinds.{bit};
 ghost use Rattle.domain.specs.Sets.{Smallest};
 ghost use Rattle.schema.specs.Examples.{«Leads-back-dead»};
 ghost use Rattle.schema.specs.Faults.{«table-fault»};
-ghost use Rattle.schema.specs.Live.{New, «Live-mask»};
+ghost use Rattle.schema.specs.Live.{New, «Live-mask», «Rank-mask»};
 ghost use Rattle.schema.specs.Tables.{tables, sets, automaton};
 use crate::sets::has_member;
 use crate::sets::with_member;
@@ -60,7 +61,8 @@ impl<D: Domain> Tested<'_, D> {
 
     /// The live states, one a bit.
     pub fn live_states(&self) -> u64
-        ensures { λ r. ⌜ Live-mask (automaton (tables (now (self .entry) .measured .schema)) (sets (D·Domain .holds) (now (self .entry) .measured .schema))) (now (self .entry) .measured .schema .states) r ⌝ }
+        ensures live { λ r. ⌜ Live-mask (automaton (tables (now (self .entry) .measured .schema)) (sets (D·Domain .holds) (now (self .entry) .measured .schema))) (now (self .entry) .measured .schema .states) r ⌝ }
+        ensures ranks { λ r. ⌜ Rank-mask (automaton (tables (now (self .entry) .measured .schema)) (sets (D·Domain .holds) (now (self .entry) .measured .schema))) (now (self .entry) .measured .schema .states) r ⌝ }
     {
         let mut live = 0;
         loop {
@@ -76,6 +78,7 @@ impl<D: Domain> Tested<'_, D> {
 /// The states that accept a finite tree, as a mask: bit i for state i, and no bit past the states; or the refusal of the tables.
 pub fn live<D: Domain>(schema: &Schema<D>) -> Result<u64, Refusal>
     ensures answer { λ r. ⌜ Cases r (Live-mask (automaton (tables (now (schema .entry))) (sets (D·Domain .holds) (now (schema .entry)))) (now (schema .entry) .states)) (λ e. table-fault (tables (now (schema .entry))) ≡ Some e) ⌝ }
+    ensures ranks { λ r. ⌜ made r (Rank-mask (automaton (tables (now (schema .entry))) (sets (D·Domain .holds) (now (schema .entry)))) (now (schema .entry) .states)) ⌝ }
     ensures example { λ _. ⌜ Leads-back-dead ⌝ }
 {
     let tested = Tested::new(schema)?;
