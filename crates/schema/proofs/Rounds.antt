@@ -166,7 +166,7 @@ module _ (A : Automaton) (n : ℕ) (few : n ≤ 64) (inside : (q a s : ℕ) → 
         let least = λ (u : Tree) (h : accepts A q u ≡ true). ⊎-elim (λ l. absurd (both-ways (bit live q) (told .1 .0) (so .exact q .1 (told .0, (u, h, l))))) (λ g. g) (cases-lt (height u) rounds) in
         ((t .0, t .1, omega (arith, t .2, least (t .0) (t .1))), least)
 
-    pub round-small : bitOr live found < 2 ^ 64
+    round-small : bitOr live found < 2 ^ 64
     round-small = or-lt 64 live found (so .small) fits
 
     -- a round that finds something finds a state that was not there
@@ -180,8 +180,8 @@ module _ (A : Automaton) (n : ℕ) (few : n ≤ 64) (inside : (q a s : ℕ) → 
         positive : (m : ℕ) → (m ≡ 0 → ⊥) → 0 < m
         positive m some = ⊎-elim (λ e. absurd (some e)) (λ ne. omega (arith, ne)) (cases-eq m 0)
 
-    pub larger : (found ≡ 0 → ⊥) → live < bitOr live found
-    larger some = let j = first-new some in or-grown live found (j .0) (j .2) (j .1)
+    pub larger : (found ≡ 0 → ⊥) → (live < bitOr live found) × (bitOr live found < 2 ^ 64)
+    larger some = let j = first-new some in (or-grown live found (j .0) (j .2) (j .1), round-small)
 
     more-found : (found ≡ 0 → ⊥) → count 64 (bit live) < count 64 (bit (bitOr live found))
     more-found some =
@@ -238,9 +238,9 @@ module _ (A : Automaton) (n : ℕ) (few : n ≤ 64) (inside : (q a s : ℕ) → 
           let s = passed (A .next q a) (λ s. accepts A s t) (parts .0) in
           (subst (λ o. passes o (bit live) ≡ true) (sym (s .1)) (all-found end (s .0) t (inside q a (s .0) low (s .1)) (s .2)), all-below end q cs low (parts .1))
 
-    pub finished : found ≡ 0 → Live-mask A n live
-    finished end q = (λ h. let told = so .exact q .0 h in (told .0, (told .1 .0, told .1 .1)), λ h. all-found end q (h .1 .0) (h .0) (h .1 .1))
-
-    -- a state is live exactly when it has a rank
-    pub finished-ranks : found ≡ 0 → Rank-mask A n live
-    finished-ranks end q = (λ h. (so .exact q .0 h .0, so .ranked q h), λ h. all-found end q (h .1 .2 .0 .0) (h .0) (h .1 .2 .0 .1))
+    -- the mask is that of the live states, and of the states that have a rank
+    pub finished : found ≡ 0 → Live-mask A n live × Rank-mask A n live
+    finished end = (
+      λ q. (λ h. let told = so .exact q .0 h in (told .0, (told .1 .0, told .1 .1)), λ h. all-found end q (h .1 .0) (h .0) (h .1 .1)),
+      λ q. (λ h. (so .exact q .0 h .0, so .ranked q h), λ h. all-found end q (h .1 .2 .0 .0) (h .0) (h .1 .2 .0 .1)),
+    )
