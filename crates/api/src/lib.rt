@@ -1,7 +1,7 @@
 //! The one door for callers: the public calls and types, by name, and nothing else.
 
-pub use check::check;
-pub use check::cursor::Cursor;
+pub use checking::check;
+pub use checking::cursor::Cursor;
 pub use codec::item::Level;
 pub use domain::coverage::{Coverage, Range};
 pub use domain::domain::Domain;

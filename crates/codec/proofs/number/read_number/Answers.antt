@@ -22,8 +22,8 @@ right-byte c =
     let at = c.loop-group.at in
     let b = c.in-Some.byte in
     let here = nth_from_copied input at c.get.result c.copied.result c.get.ensures.lookup c.copied.ensures ∙ c.in-Some.is in
-    let byte : b < 256 = omega (arith, get_d_some input at b 0 here, (c.type-inv.input at).fits) in
-    let right = sym c.if-is-wrong.ensures in
+    let byte : b < 256 = omega (arith, get_d_some input at b 0 here, (c.type_inv.input at).fits) in
+    let right = sym c.if-is_wrong.ensures in
     record {
       here = here;
       right = right;
@@ -36,18 +36,18 @@ right-byte c =
 pub loop-group-init : goal.loop-group-init
 loop-group-init c = no_group c.args.input.now c.args.place
 
-pub returns-in-default : goal.returns-in-default
-returns-in-default c =
+pub returns-in_default : goal.returns-in_default
+returns-in_default c =
     ends_short c.args.input.now c.args.place c.loop-group.value c.loop-group.at c.loop-group.group c.loop-group.invariant
-    (nth_from_copied c.args.input.now c.loop-group.at c.get.result c.copied.result c.get.ensures.lookup c.copied.ensures ∙ c.in-default.is)
+    (nth_from_copied c.args.input.now c.loop-group.at c.get.result c.copied.result c.get.ensures.lookup c.copied.ensures ∙ c.in_default.is)
 
-pub returns-then-is-wrong : goal.returns-then-is-wrong
-returns-then-is-wrong c =
+pub returns-then-is_wrong : goal.returns-then-is_wrong
+returns-then-is_wrong c =
     let here = nth_from_copied c.args.input.now c.loop-group.at c.get.result c.copied.result c.get.ensures.lookup c.copied.ensures ∙ c.in-Some.is in
-    wrong_group c.args.input.now c.args.place c.loop-group.value c.loop-group.at c.loop-group.group c.loop-group.invariant c.in-Some.byte here (sym c.if-is-wrong.ensures)
+    wrong_group c.args.input.now c.args.place c.loop-group.value c.loop-group.at c.loop-group.group c.loop-group.invariant c.in-Some.byte here (sym c.if-is_wrong.ensures)
 
-pub overflow-add-value : goal.overflow-add-value
-overflow-add-value c =
+pub overflow_add-value : goal.overflow_add-value
+overflow_add-value c =
     let r = right-byte c in
     let sum : c.loop-group.value + c.in-Some.byte % 128 * 2 ^ (7 * c.loop-group.group) % 4294967296 < 2 ^ 32 = omega (arith, r.scaled.whole, r.scaled.fits) in
     record { fits = subst (λ (n : ℕ). c.loop-group.value + n * 2 ^ (7 * c.loop-group.group) % 4294967296 < 2 ^ 32) (sym r.low) sum }

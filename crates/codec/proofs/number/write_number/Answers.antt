@@ -8,9 +8,9 @@ use Rattle.codec.proofs.number.write_number.Goals as goal
 use Rattle.codec.proofs.number.write_number.Goals.{Else-output-length-2, After-loop-index}
 
 -- the bytes have room at the place
-room : (c : goal.Else-output-length-2) → (c.args.place + length (number_bytes c.args.value) ≤ length c.args.output.now) × (c.number-length-length.result ≡ length (number_bytes c.args.value)) × (0 < length (number_bytes c.args.value))
+room : (c : goal.Else-output-length-2) → (c.args.place + length (number_bytes c.args.value) ≤ length c.args.output.now) × (c.number_length-length.result ≡ length (number_bytes c.args.value)) × (0 < length (number_bytes c.args.value))
 room c =
-    let is : c.number-length-length.result ≡ length (number_bytes c.args.value) = c.number-length-length.ensures in
+    let is : c.number_length-length.result ≡ length (number_bytes c.args.value) = c.number_length-length.ensures in
     let some = some_group 4 c.args.value in
     let left = c.if-output-length.false in
     let left-2 = c.if-output-length-2.false in
@@ -40,8 +40,8 @@ last c =
     let on = left_last c.args.value c.loop-index.index c.loop-index.rest c.loop-index.invariant.1 end in
     (end, on.0, on.1)
 
-pub overflow-cast-output-2 : goal.overflow-cast-output-2
-overflow-cast-output-2 c = record { fits = (last c).2 }
+pub overflow_cast-output-2 : goal.overflow_cast-output-2
+overflow_cast-output-2 c = record { fits = (last c).2 }
 
 pub returns : goal.returns
 returns c =
@@ -51,7 +51,7 @@ returns c =
     let bytes = number_bytes c.args.value in
     let i = c.loop-index.index in
     let l = last c in
-    let place : p + i ≡ p + c.number-length-length.result - 1 = omega (arith, r.1, l.0) in
+    let place : p + i ≡ p + c.number_length-length.result - 1 = omega (arith, r.1, l.0) in
     let upto = upto_more before p bytes i c.loop-index.output (omega (arith, l.0)) r.0 c.loop-index.invariant.0 in
     record {
       room = r.0;

@@ -7,4 +7,4 @@ use Rattle.schema.proofs.measured.byte_at.Goals as goal
 pub returns : goal.returns
 returns c =
     let read = nth_from_copied c.args.table.now c.args.index c.get.result c.copied.result c.get.ensures.lookup c.copied.ensures in
-    c.unwrap-or.ensures ∙ ap (λ o. unwrap_or o c.args.other) (sym read) ∙ value_or_nth c.args.table.now c.args.index c.args.other
+    c.unwrap_or.ensures ∙ ap (λ o. unwrap_or o c.args.other) (sym read) ∙ value_or_nth c.args.table.now c.args.index c.args.other

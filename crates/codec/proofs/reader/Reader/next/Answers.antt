@@ -2,4 +2,4 @@
 use Rattle.codec.proofs.reader.Reader.next.Goals as goal
 
 pub returns-else-self : goal.returns-else-self
-returns-else-self g c = c.go-on.ensures c.args.at
+returns-else-self g c = c.go_on.ensures c.args.at

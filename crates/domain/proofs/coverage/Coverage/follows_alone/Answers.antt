@@ -9,7 +9,7 @@ use Rattle.domain.specs.Sets.{Smallest, alone, either, both}
 use Rattle.domain.proofs.Ranges.{both_more, both_none}
 use Rattle.domain.proofs.Same.{smallest_of_same}
 use Rattle.domain.proofs.coverage.Coverage.follows_alone.Goals as goal
-use Rattle.domain.proofs.coverage.Coverage.follows_alone.Goals.{in-Some, in-default}
+use Rattle.domain.proofs.coverage.Coverage.follows_alone.Goals.{in-Some, in_default}
 
 pub loop-range-preserved : goal.loop-range-preserved
 loop-range-preserved c =
@@ -17,15 +17,15 @@ loop-range-preserved c =
     let ranges = c.used-range-items.result.now in
     let i = c.loop-range.range-index in
     let more = λ (v : ℕ). both_more set follows ranges i _ v c.loop-range-test.true in
-    elim c.match-checked-add.branch [
+    elim c.match-checked_add.branch [
       | in-Some w ↦
           let next = w.in-Some.ensures.1 in
           subst (Smallest (both set (some follows (take (i + 1) ranges)))) (sym w.best-is)
           (smallest_of_same _ _ _ (λ v _. ap (λ (n : ℕ). either (both set (some follows (take i ranges))) (both set (eqb n)) v) next ∙ more v)
           (w.smaller-best.ensures _ _ c.loop-range.invariant w.only.ensures))
-      | in-default w ↦
+      | in_default w ↦
           subst (Smallest (both set (some follows (take (i + 1) ranges)))) (sym w.best-is)
-          (smallest_of_same _ _ _ (λ v fits. both_none set (some follows (take i ranges)) (follows (at ranges i)) v (ne_eqb _ v (λ e. w.in-default.ensures (omega arith))) ∙ more v) c.loop-range.invariant)
+          (smallest_of_same _ _ _ (λ v fits. both_none set (some follows (take i ranges)) (follows (at ranges i)) v (ne_eqb _ v (λ e. w.in_default.ensures (omega arith))) ∙ more v) c.loop-range.invariant)
     ]
 
 pub returns : goal.returns

@@ -12,6 +12,6 @@ returns-in-Some c = record { answer = inr (c.if-ranges-gt-RANGES.false, c.in-Som
 pub returns : goal.returns
 returns c =
     record {
-      answer = written c.args.ranges.now c.copy-from-slice.new.self c.if-ranges-gt-RANGES.false c.in-default.ensures c.copy-from-slice.ensures.after;
+      answer = written c.args.ranges.now c.copy_from_slice.new.self c.if-ranges-gt-RANGES.false c.in_default.ensures c.copy_from_slice.ensures.after;
       one = one_answer;
     }

@@ -6,4 +6,4 @@ use Rattle.domain.proofs.coverage.CoverageDomain.gap.Goals as goal
 pub returns : goal.returns
 returns c =
     gap_of_candidates (ranges_of c.args.self.now) (ranges_of c.args.other.now) c.smaller.result
-    (c.smaller.ensures _ _ c.begins-alone.ensures c.follows-alone.ensures)
+    (c.smaller.ensures _ _ c.begins_alone.ensures c.follows_alone.ensures)

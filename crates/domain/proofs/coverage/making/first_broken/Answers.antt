@@ -3,7 +3,7 @@ use Rattle.std.proofs.Common.{◌≡◌, ◌+◌, length, subst, arith}
 use Rattle.domain.specs.Making.{Follows}
 use Rattle.domain.proofs.Making.{none, more, too_low, inverted, too_high}
 use Rattle.domain.proofs.coverage.making.first_broken.Goals as goal
-use Rattle.domain.proofs.coverage.making.first_broken.Goals.{then-range-free-via-then-range-free, then-range-free-via-else-range-free+then-range, then-range-free-via-else-range-free+else-range+then-range-gt-LAST-CODE-POINT}
+use Rattle.domain.proofs.coverage.making.first_broken.Goals.{then-range-free-via-then-range-free, then-range-free-via-else-range-free+then-range, then-range-free-via-else-range-free+else-range+then-range-gt-LAST_CODE_POINT}
 
 pub loop-place-init : goal.loop-place-init
 loop-place-init c = none c.args.ranges.now
@@ -16,13 +16,13 @@ returns-then-range-free c =
     elim c.then-range-free.branch [
       | then-range-free-via-then-range-free w ↦ too_low rs k c.loop-place.free c.loop-place.invariant w.if-range-free.true
       | then-range-free-via-else-range-free+then-range w ↦ inverted rs k w.if-range.true
-      | then-range-free-via-else-range-free+else-range+then-range-gt-LAST-CODE-POINT w ↦ too_high rs k w.if-range-gt-LAST-CODE-POINT.true
+      | then-range-free-via-else-range-free+else-range+then-range-gt-LAST_CODE_POINT w ↦ too_high rs k w.if-range-gt-LAST_CODE_POINT.true
     ] in
     record { listed = c.loop-place-test.true; before = c.loop-place.invariant.follows; broken = broken }
 
 pub loop-place-preserved : goal.loop-place-preserved
 loop-place-preserved c =
-    more c.args.ranges.now c.loop-place.place c.loop-place.free c.loop-place.invariant c.if-range-free.false c.if-range.false c.if-range-gt-LAST-CODE-POINT.false
+    more c.args.ranges.now c.loop-place.place c.loop-place.free c.loop-place.invariant c.if-range-free.false c.if-range.false c.if-range-gt-LAST_CODE_POINT.false
 
 pub returns : goal.returns
 returns c =

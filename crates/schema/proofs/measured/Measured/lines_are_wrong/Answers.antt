@@ -5,10 +5,10 @@ use Rattle.schema.specs.Tables.{tables, row_count}
 use Rattle.schema.proofs.Searches.{none_more, some_found}
 use Rattle.schema.proofs.measured.Measured.lines_are_wrong.Goals as goal
 
-pub returns-then-line-is-wrong : goal.returns-then-line-is-wrong
-returns-then-line-is-wrong g c =
+pub returns-then-line_is_wrong : goal.returns-then-line_is_wrong
+returns-then-line_is_wrong g c =
     let T = tables c.args.self.now.schema in
-    sym (some_found (line_wrong T c.args.state) (row_count T c.args.state) c.loop-row.row (subst (λ (n : ℕ). c.loop-row.row < n) c.state-byte-row-end.ensures c.loop-row-test.true) (sym c.if-line-is-wrong.ensures))
+    sym (some_found (line_wrong T c.args.state) (row_count T c.args.state) c.loop-row.row (subst (λ (n : ℕ). c.loop-row.row < n) c.state_byte-row-end.ensures c.loop-row-test.true) (sym c.if-line_is_wrong.ensures))
 
 pub loop-row-preserved : goal.loop-row-preserved
-loop-row-preserved g c = none_more (line_wrong (tables c.args.self.now.schema) c.args.state) c.loop-row.row c.loop-row.invariant (sym c.if-line-is-wrong.ensures)
+loop-row-preserved g c = none_more (line_wrong (tables c.args.self.now.schema) c.args.state) c.loop-row.row c.loop-row.invariant (sym c.if-line_is_wrong.ensures)

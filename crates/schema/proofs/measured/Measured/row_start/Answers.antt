@@ -5,18 +5,18 @@ use Rattle.schema.specs.Tables.{tables}
 use Rattle.schema.proofs.Sizes.{sized}
 use Rattle.schema.proofs.measured.Measured.row_start.Given as given
 use Rattle.schema.proofs.measured.Measured.row_start.Goals as goal
-use Rattle.schema.proofs.measured.Measured.row_start.Goals.{After-first-row}
+use Rattle.schema.proofs.measured.Measured.row_start.Goals.{After-first_row}
 
-small : (g : given.Over) (c : After-first-row g) → (c.first_row.result + c.args.row) * (c.args.self.now.schema.symbols + 1) ≤ 2171070
+small : (g : given.Over) (c : After-first_row g) → (c.first_row.result + c.args.row) * (c.args.self.now.schema.symbols + 1) ≤ 2171070
 small g c =
     let s = sized (tables c.args.self.now.schema) c.args.self.now.sized in
     mul-le (c.first_row.result + c.args.row) (c.args.self.now.schema.symbols + 1) 65790 33 (omega (arith, c.first_row.ensures.small)) (omega (arith, s.symbols.to))
 
-pub overflow-add-result : goal.overflow-add-result
-overflow-add-result g c = record { fits = omega (arith, c.first_row.ensures.small) }
+pub overflow_add-result : goal.overflow_add-result
+overflow_add-result g c = record { fits = omega (arith, c.first_row.ensures.small) }
 
-pub overflow-mul-result : goal.overflow-mul-result
-overflow-mul-result g c = record { fits = omega (arith, small g c) }
+pub overflow_mul-result : goal.overflow_mul-result
+overflow_mul-result g c = record { fits = omega (arith, small g c) }
 
 pub returns : goal.returns
 returns g c =

@@ -8,5 +8,5 @@ use Rattle.schema.proofs.tested.Tested.live_over.Goals as goal
 pub returns : goal.returns
 returns g c =
     let s = c.args.self.now.measured.schema in
-    let r = c.ranks-over.result in
-    record { live = c.ranks-over.ensures.live; ranks = rank_mask (permit (bit c.args.permitted) (automaton (tables s) (sets g.D.Domain.holds s))) s.states r.live r.rank c.ranks-over.ensures }
+    let r = c.ranks_over.result in
+    record { live = c.ranks_over.ensures.live; ranks = rank_mask (permit (bit c.args.permitted) (automaton (tables s) (sets g.D.Domain.holds s))) s.states r.live r.rank c.ranks_over.ensures }

@@ -11,5 +11,5 @@ pub returns : goal.returns
 returns g c =
     let t = c.args.self.now in
     let s = t.decreases.schema in
-    let r = c.ranks-over.result in
-    subst (λ (A : Automaton). Ranked A s.states r.live r.rank) (permit_all (tables s) (sets g.D.Domain.holds s) (omega (arith, (sized (tables s) t.decreases.sized).symbols.to))) c.ranks-over.ensures
+    let r = c.ranks_over.result in
+    subst (λ (A : Automaton). Ranked A s.states r.live r.rank) (permit_all (tables s) (sets g.D.Domain.holds s) (omega (arith, (sized (tables s) t.decreases.sized).symbols.to))) c.ranks_over.ensures

@@ -6,7 +6,7 @@ use Rattle.schema.specs.Tables.{tables, sets, automaton}
 use Rattle.schema.proofs.Gathering.{Upto, after_none, after_same, after_more, after_all, chosen_some, chosen_none, some_same}
 use Rattle.schema.proofs.Sound.{sound}
 use Rattle.schema.proofs.tested.Tested.rows_after.Goals as goal
-use Rattle.schema.proofs.tested.Tested.rows_after.Goals.{in-Some, in-default}
+use Rattle.schema.proofs.tested.Tested.rows_after.Goals.{in-Some, in_default}
 
 pub loop-symbol-init : goal.loop-symbol-init
 loop-symbol-init g c = after_none _ _ _
@@ -18,14 +18,14 @@ loop-symbol-preserved g c =
     let Edge = RowEdge A c.args.state set in
     let r = c.args.row in
     let k = c.loop-symbol.symbol in
-    elim c.match-row-after.branch [
+    elim c.match-row_after.branch [
       | in-Some w ↦
-          let told = chosen_some (set k) (A.step c.args.state r k) w.in-Some.next (sym c.row-after.ensures ∙ w.in-Some.is) in
+          let told = chosen_some (set k) (A.step c.args.state r k) w.in-Some.next (sym c.row_after.ensures ∙ w.in-Some.is) in
           subst (After (Upto Edge r c.args.before (k + 1)) r c.args.before) (sym w.reached-is)
-          (after_more Edge r c.args.before k c.loop-symbol.reached w.with-member-reached.result w.in-Some.next c.loop-symbol.invariant told (λ j e. some_same (sym told.1 ∙ e.1)) w.with-member-reached.ensures.adds)
-      | in-default w ↦
+          (after_more Edge r c.args.before k c.loop-symbol.reached w.with_member-reached.result w.in-Some.next c.loop-symbol.invariant told (λ j e. some_same (sym told.1 ∙ e.1)) w.with_member-reached.ensures.adds)
+      | in_default w ↦
           subst (After (Upto Edge r c.args.before (k + 1)) r c.args.before) (sym w.reached-is)
-          (after_same Edge r c.args.before k c.loop-symbol.reached c.loop-symbol.invariant (λ j e. chosen_none (set k) (A.step c.args.state r k) j (sym c.row-after.ensures ∙ w.in-default.is) e.0 e.1))
+          (after_same Edge r c.args.before k c.loop-symbol.reached c.loop-symbol.invariant (λ j e. chosen_none (set k) (A.step c.args.state r k) j (sym c.row_after.ensures ∙ w.in_default.is) e.0 e.1))
     ]
 
 pub returns : goal.returns

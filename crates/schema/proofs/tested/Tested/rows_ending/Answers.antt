@@ -6,7 +6,7 @@ use Rattle.schema.specs.Tables.{tables, sets, automaton, row_count}
 use Rattle.schema.proofs.Rounds.{gathered_none, gathered_more, gathered_same, gathered_all}
 use Rattle.schema.proofs.Sound.{sound}
 use Rattle.schema.proofs.tested.Tested.rows_ending.Goals as goal
-use Rattle.schema.proofs.tested.Tested.rows_ending.Goals.{then-has-sequence, else-has-sequence}
+use Rattle.schema.proofs.tested.Tested.rows_ending.Goals.{then-has_sequence, else-has_sequence}
 
 pub loop-row-init : goal.loop-row-init
 loop-row-init g c = λ low. gathered_none _
@@ -17,20 +17,20 @@ loop-row-preserved g c = λ low.
     let s = t.decreases.schema in
     let k = c.loop-row.row in
     let Runs : ℕ → Type 0 = RunsOver (automaton (tables s) (sets g.D.Domain.holds s)) c.args.state (bit c.args.symbols) in
-    let inside : k < row_count (tables s) c.args.state = subst (λ (n : ℕ). k < n) c.state-byte-row-end.ensures c.loop-row-test.true in
+    let inside : k < row_count (tables s) c.args.state = subst (λ (n : ℕ). k < n) c.state_byte-row-end.ensures c.loop-row-test.true in
     let few : k < 64 = omega (arith, inside, ((sound (tables s) (sets g.D.Domain.holds s) t.sound).rows c.args.state low).to) in
-    let told = c.has-sequence.ensures low inside in
-    elim c.if-has-sequence.branch [
-      | then-has-sequence w ↦
+    let told = c.has_sequence.ensures low inside in
+    elim c.if-has_sequence.branch [
+      | then-has_sequence w ↦
           subst (λ (m : ℕ). (i : ℕ) → Decides (bit m i) ((i < k + 1) × Runs i)) (sym w.ending-is)
-          (gathered_more Runs c.loop-row.ending w.with-member-ending.result k few (c.loop-row.invariant low) (told.0 w.if-has-sequence.true) w.with-member-ending.ensures.adds)
-      | else-has-sequence w ↦
+          (gathered_more Runs c.loop-row.ending w.with_member-ending.result k few (c.loop-row.invariant low) (told.0 w.if-has_sequence.true) w.with_member-ending.ensures.adds)
+      | else-has_sequence w ↦
           subst (λ (m : ℕ). (i : ℕ) → Decides (bit m i) ((i < k + 1) × Runs i)) (sym w.ending-is)
-          (gathered_same Runs c.loop-row.ending k (c.loop-row.invariant low) c.has-sequence.result told w.if-has-sequence.false)
+          (gathered_same Runs c.loop-row.ending k (c.loop-row.invariant low) c.has_sequence.result told w.if-has_sequence.false)
     ]
 
 pub returns : goal.returns
 returns g c = λ low.
     let s = c.args.self.now.measured.schema in
     gathered_all (RunsOver (automaton (tables s) (sets g.D.Domain.holds s)) c.args.state (bit c.args.symbols)) c.loop-row.ending c.loop-row.row (row_count (tables s) c.args.state)
-    (subst (λ (n : ℕ). c.loop-row.row ≤ n) c.state-byte-row-end.ensures c.loop-row.auto.row-end) (subst (λ (n : ℕ). n ≤ c.loop-row.row) c.state-byte-row-end.ensures c.loop-row-test.false) (c.loop-row.invariant low)
+    (subst (λ (n : ℕ). c.loop-row.row ≤ n) c.state_byte-row-end.ensures c.loop-row.auto.row-end) (subst (λ (n : ℕ). n ≤ c.loop-row.row) c.state_byte-row-end.ensures c.loop-row-test.false) (c.loop-row.invariant low)

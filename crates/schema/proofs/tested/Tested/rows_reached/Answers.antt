@@ -16,7 +16,7 @@ loop-row-init g c = λ low inside.
     let q = c.args.state in
     let set = bit c.args.symbols in
     partly_start (RowEdge A q set) (LeadsOver A q set c.args.from) c.args.from (row_count T q) (omega (arith, (s.rows q low).to)) ([], tt, refl) (λ i a j l so e. leads_on A q set c.args.from i a j so e) (λ i a j l e. s.step_in q i a j low l e.1)
-    c.with-member-reached.result inside c.with-member-reached.ensures.adds
+    c.with_member-reached.result inside c.with_member-reached.ensures.adds
 
 pub loop-row-preserved : goal.loop-row-preserved
 loop-row-preserved g c = λ low inside.
@@ -27,7 +27,7 @@ loop-row-preserved g c = λ low inside.
     let q = c.args.state in
     let set = bit c.args.symbols in
     partly_more (RowEdge A q set) (LeadsOver A q set c.args.from) c.args.from (row_count T q) (omega (arith, (s.rows q low).to)) ([], tt, refl) (λ i a j l so e. leads_on A q set c.args.from i a j so e) (λ i a j l e. s.step_in q i a j low l e.1)
-    c.loop-row.reached c.loop-row.done c.in-Some.row c.with-member-done.result c.rows-after-reached.result (c.loop-row.invariant low inside) c.in-Some.ensures c.with-member-done.ensures.adds c.rows-after-reached.ensures
+    c.loop-row.reached c.loop-row.done c.in-Some.row c.with_member-done.result c.rows_after-reached.result (c.loop-row.invariant low inside) c.in-Some.ensures c.with_member-done.ensures.adds c.rows_after-reached.ensures
 
 pub returns : goal.returns
 returns g c = λ low inside.
@@ -41,6 +41,6 @@ returns g c = λ low inside.
     record {
       start = so.start;
       closed = partly_done (RowEdge A q set) (LeadsOver A q set c.args.from) c.args.from (row_count T q) (omega (arith, (s.rows q low).to)) ([], tt, refl) (λ i a j l so e. leads_on A q set c.args.from i a j so e) (λ i a j l e. s.step_in q i a j low l e.1)
-          c.loop-row.reached c.loop-row.done so c.in-default.ensures;
+          c.loop-row.reached c.loop-row.done so c.in_default.ensures;
       only = so.only;
     }

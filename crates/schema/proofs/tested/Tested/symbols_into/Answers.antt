@@ -9,7 +9,7 @@ use Rattle.schema.proofs.Members.{gathered, passed_over}
 use Rattle.schema.proofs.Permits.{permit_none}
 use Rattle.schema.proofs.Sizes.{sized}
 use Rattle.schema.proofs.tested.Tested.symbols_into.Goals as goal
-use Rattle.schema.proofs.tested.Tested.symbols_into.Goals.{then-leads-into, else-leads-into}
+use Rattle.schema.proofs.tested.Tested.symbols_into.Goals.{then-leads_into, else-leads_into}
 
 pub loop-symbol-preserved : goal.loop-symbol-preserved
 loop-symbol-preserved g c =
@@ -17,13 +17,13 @@ loop-symbol-preserved g c =
     let k = c.loop-symbol.symbol in
     let test : ℕ → Bool = λ a. passes ((permit (bit c.args.permitted) (automaton (tables s) (sets g.D.Domain.holds s))).next c.args.state a) (bit c.args.states) in
     let low : k < 64 = omega (arith, c.loop-symbol-test.true, c.symbols-symbol-end.ensures, (sized (tables s) c.args.self.now.measured.sized).symbols.to) in
-    elim c.if-leads-into.branch [
-      | then-leads-into w ↦
+    elim c.if-leads_into.branch [
+      | then-leads_into w ↦
           subst (λ (n : ℕ). (a : ℕ) → bit n a ≡ (ltb a (k + 1) && test a)) (sym w.found-is)
-          (gathered test c.loop-symbol.found w.with-member-found.result k low c.loop-symbol.invariant (sym c.leads-into.ensures ∙ w.if-leads-into.true) w.with-member-found.ensures.adds)
-      | else-leads-into w ↦
+          (gathered test c.loop-symbol.found w.with_member-found.result k low c.loop-symbol.invariant (sym c.leads_into.ensures ∙ w.if-leads_into.true) w.with_member-found.ensures.adds)
+      | else-leads_into w ↦
           subst (λ (n : ℕ). (a : ℕ) → bit n a ≡ (ltb a (k + 1) && test a)) (sym w.found-is)
-          (passed_over test c.loop-symbol.found k c.loop-symbol.invariant (sym c.leads-into.ensures ∙ w.if-leads-into.false))
+          (passed_over test c.loop-symbol.found k c.loop-symbol.invariant (sym c.leads_into.ensures ∙ w.if-leads_into.false))
     ]
 
 pub returns : goal.returns

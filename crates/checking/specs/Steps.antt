@@ -3,8 +3,8 @@ use Rattle.std.specs.Prelude.{◌≡◌, ℕ, ◌-◌, Bool, false, List, Some, 
 use Rattle.codec.specs.declared.item.Level.{Level}
 use Rattle.codec.specs.Piles.{topmost}
 use Rattle.schema.specs.Automata.{Automaton}
-use Rattle.check.specs.declared.cursor.Answer.{Answer}
-use Rattle.check.specs.declared.cursor.Cursor.{Cursor}
+use Rattle.checking.specs.declared.cursor.Answer.{Answer}
+use Rattle.checking.specs.declared.cursor.Cursor.{Cursor}
 
 -- the node goes on at another row of its state
 abbrev pub moved : Level Cursor → ℕ → Level Cursor

@@ -1,10 +1,10 @@
 //! The walk over a tree's items, with the schema's automaton alongside.
 ghost use Rattle.std.specs.Prelude.{◌≡◌, ℕ, Bool, ◌&&◌, List, length};
 ghost use Rattle.codec.specs.Reading.{read_tree, whole};
-ghost use Rattle.check.specs.Checking.{verdict};
+ghost use Rattle.checking.specs.Checking.{verdict};
 ghost use Rattle.codec.specs.Piles.{topmost};
 ghost use Rattle.schema.specs.Tables.{tables, sets, automaton};
-ghost use Rattle.check.specs.Steps.{may_end, StepsOn};
+ghost use Rattle.checking.specs.Steps.{may_end, StepsOn};
 
 use crate::cursor::{Answer, Cursor};
 use codec::item::{Item, Level};

@@ -2,9 +2,9 @@
 use Rattle.std.proofs.Common.{◌≡◌, ℕ, ◌-◌, false, List, length, set, Some, None, Option, sym, refl, ap, ◌∙◌, subst, length-set}
 use Rattle.codec.specs.declared.item.Level.{Level}
 use Rattle.schema.specs.Automata.{Automaton}
-use Rattle.check.specs.declared.cursor.Answer.{Answer}
-use Rattle.check.specs.declared.cursor.Cursor.{Cursor}
-use Rattle.check.specs.Steps.{moved, both_known, StepsOn}
+use Rattle.checking.specs.declared.cursor.Answer.{Answer}
+use Rattle.checking.specs.declared.cursor.Cursor.{Cursor}
+use Rattle.checking.specs.Steps.{moved, both_known, StepsOn}
 
 module _ (A : Automaton) (a : ℕ) (before : Answer) (top : Option (Level Cursor)) (slots : List (Level Cursor)) (count : ℕ) (f : Level Cursor) (on : top ≡ Some f) where
   -- over the level on top

@@ -11,7 +11,7 @@ use Rattle.schema.specs.Automata.{Automaton, accepts}
 use Rattle.schema.specs.Faults.{table_fault, size_wrong}
 use Rattle.schema.specs.Tables.{Tables, automaton}
 use Rattle.schema.proofs.Sizes.{sized, sound_size}
-use Rattle.check.specs.Checking.{unless, verdict, checked, ChecksTrees}
+use Rattle.checking.specs.Checking.{unless, verdict, checked, ChecksTrees}
 
 not_err : {e : Refusal} {b : Bool} → ◌≡◌ {A = Result Bool Refusal} (Err e) (Ok b) → ⊥
 not_err e = let z : ◌≡◌ {A = ℕ} 0 1 = cc in omega arith

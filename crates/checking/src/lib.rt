@@ -3,7 +3,7 @@ ghost use Rattle.std.specs.Prelude.{◌≡◌, length};
 ghost use Rattle.codec.specs.Encoding.{ReadsEncodings};
 ghost use Rattle.schema.specs.Bindings.{AcceptedIsBound};
 ghost use Rattle.schema.specs.Tables.{tables, sets};
-ghost use Rattle.check.specs.Checking.{checked, ChecksTrees};
+ghost use Rattle.checking.specs.Checking.{checked, ChecksTrees};
 
 use crate::cursor::Cursor;
 use codec::item::Level;

@@ -1,8 +1,8 @@
 -- The outcome of what is left is the verdict on the whole; each item takes bytes or a level. Assumes nothing.
 use Rattle.std.proofs.Common.{◌+◌, ◌-◌, ◌*◌, length}
 use Rattle.schema.specs.Tables.{tables, sets, automaton}
-use Rattle.check.proofs.Midst.{Midst}
-use Rattle.check.proofs.walk.walk.Given as goal
+use Rattle.checking.proofs.Midst.{Midst}
+use Rattle.checking.proofs.walk.walk.Given as goal
 
 abbrev pub invariant-loop-item : goal.invariant-loop-item
 invariant-loop-item g l =

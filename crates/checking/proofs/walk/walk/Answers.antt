@@ -8,14 +8,14 @@ use Rattle.codec.specs.declared.item.Item.TheVariants.{Value, Symbol, End}
 use Rattle.codec.specs.Items.{Walks}
 use Rattle.schema.specs.Automata.{Automaton}
 use Rattle.schema.specs.Tables.{tables, sets, automaton}
-use Rattle.check.specs.declared.cursor.Answer.{Answer}
-use Rattle.check.specs.Steps.{may_end}
-use Rattle.check.proofs.Midst.{Midst, the_verdict, stops, over, after_value, after_end, strange, after_symbol, less_value, less_symbol, less_end, ended_at, ended_whole}
-use Rattle.check.proofs.Stepping.{steps_long}
-use Rattle.check.proofs.Outcome.{ended}
-use Rattle.check.proofs.walk.walk.Given as given
-use Rattle.check.proofs.walk.walk.Goals as goal
-use Rattle.check.proofs.walk.walk.Goals.{In-Some, In-default, After-new-pile}
+use Rattle.checking.specs.declared.cursor.Answer.{Answer}
+use Rattle.checking.specs.Steps.{may_end}
+use Rattle.checking.proofs.Midst.{Midst, the_verdict, stops, over, after_value, after_end, strange, after_symbol, less_value, less_symbol, less_end, ended_at, ended_whole}
+use Rattle.checking.proofs.Stepping.{steps_long}
+use Rattle.checking.proofs.Outcome.{ended}
+use Rattle.checking.proofs.walk.walk.Given as given
+use Rattle.checking.proofs.walk.walk.Goals as goal
+use Rattle.checking.proofs.walk.walk.Goals.{In-Some, In-default, After-new-pile}
 
 -- what the reader handed out, as an item
 walked : (g : given.Over) (c : In-Some g) → Walks (record { state = c.loop-item.answer.state; row = 0 }) c.loop-item.reader.input.now c.loop-item.reader.place c.loop-item.reader.fresh c.loop-item.pile.slots.now c.loop-item.pile.count (Ok (Some c.in-Some.item)) c.next.new.self.input.now c.next.new.self.place c.next.new.self.fresh c.next.new.levels.slots.now c.next.new.levels.count

@@ -3,8 +3,8 @@ use Rattle.std.proofs.Common.{ltb, sym, refl, ◌∙◌}
 use Rattle.std.proofs.lemmas.Bool.{lt-ltb, cond-true}
 use Rattle.codec.proofs.Walking.{top_split}
 use Rattle.schema.specs.Tables.{tables, automaton}
-use Rattle.check.proofs.Stepping.{no_row, no_state, goes_on}
-use Rattle.check.proofs.walk.name.Goals as goal
+use Rattle.checking.proofs.Stepping.{no_row, no_state, goes_on}
+use Rattle.checking.proofs.walk.name.Goals as goal
 
 pub returns-in-default-next-row : goal.returns-in-default-next-row
 returns-in-default-next-row g c =

@@ -10,11 +10,11 @@ use Rattle.codec.specs.Piles.{entries, topmost}
 use Rattle.codec.specs.Reading.{read_tree, whole}
 use Rattle.codec.proofs.Walking.{topmost_of}
 use Rattle.schema.specs.Automata.{Automaton}
-use Rattle.check.specs.declared.cursor.Answer.{Answer}
-use Rattle.check.specs.declared.cursor.Cursor.{Cursor}
-use Rattle.check.specs.Checking.{verdict}
-use Rattle.check.specs.Steps.{may_end, StepsOn}
-use Rattle.check.proofs.Outcome.{ended, pending, outcome, at_root, on_value, on_end, on_over, on_strange, on_symbol, on_node_fault, on_symbol_fault}
+use Rattle.checking.specs.declared.cursor.Answer.{Answer}
+use Rattle.checking.specs.declared.cursor.Cursor.{Cursor}
+use Rattle.checking.specs.Checking.{verdict}
+use Rattle.checking.specs.Steps.{may_end, StepsOn}
+use Rattle.checking.proofs.Outcome.{ended, pending, outcome, at_root, on_value, on_end, on_over, on_strange, on_symbol, on_node_fault, on_symbol_fault}
 
 module _ (A : Automaton) (s : ℕ) (tree : List ℕ) (room : ℕ) where
   abbrev pub the_verdict : Result Bool Refusal

@@ -13,10 +13,10 @@ use Rattle.codec.specs.Numbers.{Got, got, stop, read_number, refused}
 use Rattle.codec.specs.Reading.{then, read_symbol, read_children, read_tree, whole}
 use Rattle.codec.specs.Trees.{Tree, node, Children, none, child, word}
 use Rattle.schema.specs.Automata.{Automaton, passes, present, row_runs, has_next, accepts, accepts_all}
-use Rattle.check.specs.declared.cursor.Answer.{Answer}
-use Rattle.check.specs.declared.cursor.Cursor.{Cursor}
-use Rattle.check.specs.Checking.{verdict}
-use Rattle.check.specs.Steps.{moved, both_known, StepsOn}
+use Rattle.checking.specs.declared.cursor.Answer.{Answer}
+use Rattle.checking.specs.declared.cursor.Cursor.{Cursor}
+use Rattle.checking.specs.Checking.{verdict}
+use Rattle.checking.specs.Steps.{moved, both_known, StepsOn}
 
 -- what comes of something that was read
 abbrev pub on_got : {X : Type 0} → Got X → (X → List ℕ → Result Bool Refusal) → Result Bool Refusal

@@ -9,11 +9,11 @@ use Rattle.schema.specs.Faults.{table_fault}
 use Rattle.schema.specs.Tables.{tables, sets, automaton}
 use Rattle.schema.proofs.Bound.{accepted_is_bound}
 use Rattle.schema.proofs.Sizes.{sound_tables}
-use Rattle.check.specs.Checking.{unless, verdict}
-use Rattle.check.proofs.Trees.{checks_trees}
-use Rattle.check.proofs.check.Given as given
-use Rattle.check.proofs.check.Goals as goal
-use Rattle.check.proofs.check.Goals.{Start}
+use Rattle.checking.specs.Checking.{unless, verdict}
+use Rattle.checking.proofs.Trees.{checks_trees}
+use Rattle.checking.proofs.check.Given as given
+use Rattle.checking.proofs.check.Goals as goal
+use Rattle.checking.proofs.check.Goals.{Start}
 
 -- what the walk over the tree answers, for a schema
 abbrev walked : (g : given.Over) → Start g → Schema g.row.D.Denot → Result Bool Refusal
