@@ -51,8 +51,8 @@ pub bit_zero : (i : ℕ) → bit 0 i ≡ false
 bit_zero i = ap (λ (n : ℕ). eqb (n % 2) 1) (div-eq_of_lt (pow_pos i))
 
 -- a set with all members of another
-pub bit_or : (a b i : ℕ) → bit (bit_or a b) i ≡ (bit a i || bit b i)
-bit_or a b i = by (digit (bit_or a b) i) (digit a i) (digit b i) (digit_or a b i) (mod_below (a / 2 ^ i) 2 (omega arith)) (mod_below (b / 2 ^ i) 2 (omega arith))
+pub bit-bit_or : (a b i : ℕ) → bit (bit_or a b) i ≡ (bit a i || bit b i)
+bit-bit_or a b i = by (digit (bit_or a b) i) (digit a i) (digit b i) (digit_or a b i) (mod_below (a / 2 ^ i) 2 (omega arith)) (mod_below (b / 2 ^ i) 2 (omega arith))
   where
     by : (d e f : ℕ) → d ≡ max e f → e < 2 → f < 2 → eqb d 1 ≡ (eqb e 1 || eqb f 1)
     by d e f is two two' = grind (arith, nat_tests)
@@ -62,7 +62,7 @@ or_grown a b i out there =
     ⊎_elim (λ h. h)
     (λ h.
     let same : bit_or a b ≡ a = omega (arith, or_add_and a b, and_le_r a b) in
-    absurd (both_ways (bit a i) out (sym (ap (λ (n : ℕ). bit n i) same) ∙ bit_or a b i ∙ or_right (bit a i) _ there)))
+    absurd (both_ways (bit a i) out (sym (ap (λ (n : ℕ). bit n i) same) ∙ bit-bit_or a b i ∙ or_right (bit a i) _ there)))
     (cases_lt a (bit_or a b))
 
 -- the members below k that pass a test, and k

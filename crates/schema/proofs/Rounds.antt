@@ -14,7 +14,7 @@ use Rattle.schema.specs.Rows.{RunsOver}
 use Rattle.schema.proofs.Bound.{passed}
 use Rattle.schema.proofs.Counting.{count_le, count_grows}
 use Rattle.schema.proofs.Gathering.{in_one_more, one_more_keeps, one_more_has}
-use Rattle.schema.proofs.Members.{bit_zero, bit_or, or_grown}
+use Rattle.schema.proofs.Members.{bit_zero, bit-bit_or, or_grown}
 
 -- members below k with a property, gathered one after the other
 module _ (P : ℕ → Type 0) where
@@ -146,7 +146,7 @@ module _ (A : Automaton) (n : ℕ) (few : n ≤ 64) (inside : (q a s : ℕ) → 
     more_found : (found ≡ 0 → ⊥) → count_below 64 (bit live) < count_below 64 (bit (bit_or live found))
     more_found some =
         let j = first_new some in
-        count_grows (bit live) (bit (bit_or live found)) (λ i h. bit_or live found i ∙ or_left _ _ h) 64 j.0 j.3 j.2 (bit_or live found j.0 ∙ or_right (bit live j.0) _ j.1)
+        count_grows (bit live) (bit (bit_or live found)) (λ i h. bit-bit_or live found i ∙ or_left _ _ h) 64 j.0 j.3 j.2 (bit-bit_or live found j.0 ∙ or_right (bit live j.0) _ j.1)
 
     more_many : (found ≡ 0 → ⊥) → rounds + 1 ≤ count_below 64 (bit (bit_or live found))
     more_many some = one_more _ _ so.many (more_found some)
@@ -175,7 +175,7 @@ module _ (A : Automaton) (n : ℕ) (few : n ≤ 64) (inside : (q a s : ℕ) → 
 
       noted_others : (q : ℕ) → q < 64 → bit (bit_or live found) q ≡ false → get_or after q 0 ≡ 255
       noted_others q low out =
-          let parts = or_parts (bit live q) (bit found q) (sym (bit_or live found q) ∙ out) in
+          let parts = or_parts (bit live q) (bit found q) (sym (bit-bit_or live found q) ∙ out) in
           notes q low ∙ cond-false _ rounds (get_or ranks q 0) parts.1 ∙ so.others q low parts.0
 
       pub one_round : AfterRounds A n (bit_or live found) after (rounds + 1)
@@ -187,15 +187,15 @@ module _ (A : Automaton) (n : ℕ) (few : n ≤ 64) (inside : (q a s : ℕ) → 
                   ⊎_elim
                   (λ old. let told = (so.exact q).0 old in (told.0, (told.1.0, told.1.1, omega (arith, told.1.2))))
                   (λ new. let told = (round q).0 new in (told.0, found_below rounds (bit live) lower q told.1.1))
-                  (or_cases (bit live q) (bit found q) (sym (bit_or live found q) ∙ h)),
+                  (or_cases (bit live q) (bit found q) (sym (bit-bit_or live found q) ∙ h)),
               λ h.
-                  bit_or live found q
+                  bit-bit_or live found q
                   ∙ ⊎_elim
                   (λ old. or_left _ _ old)
                   (λ out. or_right (bit live q) _ ((round q).1 (h.0, (out, found_of rounds (bit live) (λ s low b. (so.exact s).1 (low, b)) q h.0 h.1))))
                   (cases_Bool (bit live q)),
             );
-            noted = λ q h. ⊎_elim (noted_old q) (noted_new q) (or_cases (bit live q) (bit found q) (sym (bit_or live found q) ∙ h));
+            noted = λ q h. ⊎_elim (noted_old q) (noted_new q) (or_cases (bit live q) (bit found q) (sym (bit-bit_or live found q) ∙ h));
             others = noted_others;
             many = more_many some;
           }

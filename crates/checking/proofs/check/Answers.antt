@@ -38,7 +38,7 @@ returns g c =
     let t = c.in-ok-tested.tested in
     let same = c.in-ok-tested.ensures in
     record {
-      answer = c.walk.ensures ∙ ap (λ o. unless o (walked g at t.decreases.schema)) (sym (sound_tables (tables t.decreases.schema) t.sound))
+      answer = c.walk.ensures ∙ ap (λ o. unless o (walked g at t.measured.schema)) (sym (sound_tables (tables t.measured.schema) t.sound))
           ∙ ap (λ s. unless (table_fault (tables s)) (walked g at s)) same;
       trees = checks_trees;
       encodings = reads_encodings;

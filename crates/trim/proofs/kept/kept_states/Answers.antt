@@ -14,22 +14,22 @@ use Rattle.trim.proofs.kept.kept_states.Goals as goal
 pub loop-state-init : goal.loop-state-init
 loop-state-init g c = λ mask.
     let t = c.args.tested.now in
-    let s = t.decreases.schema in
+    let s = t.measured.schema in
     let A = automaton (tables s) (sets g.D.Domain.holds s) in
     let B = permit (bit c.args.permitted) A in
     let Good : ℕ → Type 0 = λ q. (w : List ℕ) × LivePath B 0 w q in
-    let few = (sized (tables s) t.decreases.sized).states.to in
+    let few = (sized (tables s) t.measured.sized).states.to in
     partly_start (LiveEdge B) Good 0 s.states few ([], refl) (λ i a j low so e. (so.0 ++ a ∷ [], path_push B so.0 0 i a j so.1 e.0 e.1)) (λ i a j low e. (sound (tables s) (sets g.D.Domain.holds s) t.sound).next_in i a j low (chosen_some _ _ j e.1).1)
-    c.with-member-reached.result (omega (arith, (sized (tables s) t.decreases.sized).states.from)) c.with-member-reached.ensures.adds
+    c.with-member-reached.result (omega (arith, (sized (tables s) t.measured.sized).states.from)) c.with-member-reached.ensures.adds
 
 pub loop-state-preserved : goal.loop-state-preserved
 loop-state-preserved g c = λ mask.
     let t = c.args.tested.now in
-    let s = t.decreases.schema in
+    let s = t.measured.schema in
     let A = automaton (tables s) (sets g.D.Domain.holds s) in
     let B = permit (bit c.args.permitted) A in
     let Good : ℕ → Type 0 = λ q. (w : List ℕ) × LivePath B 0 w q in
-    let few = (sized (tables s) t.decreases.sized).states.to in
+    let few = (sized (tables s) t.measured.sized).states.to in
     let so = c.loop-state.invariant mask in
     let q = c.in-Some.state in
     let here = partly_here (LiveEdge B) Good 0 s.states few ([], refl) (λ i a j low so e. (so.0 ++ a ∷ [], path_push B so.0 0 i a j so.1 e.0 e.1)) (λ i a j low e. (sound (tables s) (sets g.D.Domain.holds s) t.sound).next_in i a j low (chosen_some _ _ j e.1).1) c.loop-state.reached c.loop-state.done q so c.in-Some.ensures in
@@ -40,11 +40,11 @@ loop-state-preserved g c = λ mask.
 pub returns : goal.returns
 returns g c = λ mask start q.
     let t = c.args.tested.now in
-    let s = t.decreases.schema in
+    let s = t.measured.schema in
     let A = automaton (tables s) (sets g.D.Domain.holds s) in
     let B = permit (bit c.args.permitted) A in
     let Good : ℕ → Type 0 = λ q. (w : List ℕ) × LivePath B 0 w q in
-    let few = (sized (tables s) t.decreases.sized).states.to in
+    let few = (sized (tables s) t.measured.sized).states.to in
     let so = c.loop-state.invariant mask in
     let closed = partly_done (LiveEdge B) Good 0 s.states few ([], refl) (λ i a j low so e. (so.0 ++ a ∷ [], path_push B so.0 0 i a j so.1 e.0 e.1)) (λ i a j low e. (sound (tables s) (sets g.D.Domain.holds s) t.sound).next_in i a j low (chosen_some _ _ j e.1).1)
     c.loop-state.reached c.loop-state.done so c.in-default.ensures in (

@@ -39,7 +39,7 @@ loop-symbol-preserved-then-not-has-member g c =
 pub returns : goal.returns
 returns g c =
     let t = c.args.tested.now in
-    let s = t.decreases.schema in
+    let s = t.measured.schema in
     let kept = sound (tables s) (sets g.D.Domain.holds s) t.sound in
     after_all (LedTo (automaton (tables s) (sets g.D.Domain.holds s)) (bit c.args.symbols)) c.args.state c.args.before c.loop-symbol.symbol c.loop-symbol.reached
     (λ a j e. omega (arith, kept.next_symbol c.args.state a j e.1, c.symbols-symbol-end.ensures, c.loop-symbol-test.false)) c.loop-symbol.invariant

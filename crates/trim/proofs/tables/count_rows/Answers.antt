@@ -11,7 +11,7 @@ use Rattle.trim.proofs.tables.count_rows.Goals.{then-has-member, else-has-member
 pub overflow-add-rows : goal.overflow-add-rows
 overflow-add-rows g c =
     let t = c.args.tested.now in
-    let T = tables t.decreases.schema in
+    let T = tables t.measured.schema in
     let few = rows_few T (bit c.args.keeping.permitted) (bit c.args.keeping.kept) (sound_tables T t.sound) c.loop-state.state (omega (arith, c.loop-state-test.true)) in
     record { fits = omega (arith, few, c.loop-state.invariant, c.state_byte.type-inv) }
 

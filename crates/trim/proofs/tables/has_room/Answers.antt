@@ -34,12 +34,12 @@ last_of_three false b c first second = absurd (both_ways false refl first)
 few : (g : given.Over) (c : After-count-rows-row-count g) → (c.count-states-state-count.result ≤ 64) × (c.count-rows-row-count.result ≤ 1024) × (c.symbols-symbols.result ≤ 32)
 few g c =
     let t = c.args.tested.now in
-    let T = tables t.decreases.schema in
+    let T = tables t.measured.schema in
     let permitted = bit c.args.keeping.permitted in
     let kept = bit c.args.keeping.kept in (
       omega (arith, c.count-states-state-count.ensures, number_few T permitted kept (sound_tables T t.sound) T.states (omega arith)),
       omega (arith, c.count-rows-row-count.ensures, rows_few T permitted kept (sound_tables T t.sound) T.states (omega arith)),
-      omega (arith, c.symbols-symbols.ensures, (sized T t.decreases.sized).symbols.to),
+      omega (arith, c.symbols-symbols.ensures, (sized T t.measured.sized).symbols.to),
     )
 
 -- the test, by the counts

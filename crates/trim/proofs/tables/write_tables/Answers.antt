@@ -15,7 +15,7 @@ use Rattle.trim.proofs.tables.write_tables.Goals.{Then-has-member, then-has-memb
 here : (g : given.Over) (c : Then-has-member g) → Places (tables c.args.tested.now.measured.schema) (bit c.args.keeping.permitted) (bit c.args.keeping.kept) (outputs c.args.transitions.now c.args.states.now c.args.rows.now) c.loop-state.state c.loop-state.number c.loop-state.first
 here g c =
     let t = c.args.tested.now in
-    let T = tables t.decreases.schema in
+    let T = tables t.measured.schema in
     let permitted = bit c.args.keeping.permitted in
     let kept = bit c.args.keeping.kept in
     let out = outputs c.args.transitions.now c.args.states.now c.args.rows.now in
@@ -50,7 +50,7 @@ overflow-add-first g c = record { fits = omega (arith, (here g (goal.at.overflow
 pub loop-state-preserved : goal.loop-state-preserved
 loop-state-preserved g c =
     let t = c.args.tested.now in
-    let T = tables t.decreases.schema in
+    let T = tables t.measured.schema in
     let permitted = bit c.args.keeping.permitted in
     let kept = bit c.args.keeping.kept in
     let out = outputs c.args.transitions.now c.args.states.now c.args.rows.now in

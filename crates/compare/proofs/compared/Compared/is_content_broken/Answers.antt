@@ -17,7 +17,7 @@ pub returns : goal.returns
 returns g c = λ there mask room.
     let compared = c.args.self.now in
     let t = compared.first.now in
-    let s = t.decreases.schema in
+    let s = t.measured.schema in
     let w = c.new.result in
     let v = w.tested.now.measured.schema in
     let holds = g.D.Domain.holds in
@@ -27,7 +27,7 @@ returns g c = λ there mask room.
     let p = c.args.p in
     let q = c.args.q in
     let symbols = c.symbols-into-symbols.result in
-    let all = permit_all (tables s) (sets holds s) (omega (arith, (sized (tables s) t.decreases.sized).symbols.to)) in
+    let all = permit_all (tables s) (sets holds s) (omega (arith, (sized (tables s) t.measured.sized).symbols.to)) in
     let same = subst (λ (X : Automaton). (a : ℕ) → bit symbols a ≡ passes (X.next p a) (bit compared.live)) all c.symbols-into-symbols.ensures in
     let found = c.search.ensures.answer there.0 c.new-pile.ensures.empty (omega (arith, ap length c.new-pile.ensures.over)) in
     subst (λ (b : Bool). Decides b (Broken A B Content p q)) (sym c.is-some.ensures)

@@ -25,7 +25,7 @@ loop-row-preserved g c = below_more _ _ c.loop-row.invariant (λ there. second _
 pub returns : goal.returns
 returns g c = λ low inside.
     let t = c.args.self.now in
-    let s = t.decreases.schema in
+    let s = t.measured.schema in
     let T = tables s in
     let A = automaton T (sets g.D.Domain.holds s) in
     let q = c.args.state in

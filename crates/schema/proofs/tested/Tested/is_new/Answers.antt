@@ -12,7 +12,7 @@ use Rattle.schema.proofs.tested.Tested.is_new.Goals as goal
 pub returns : goal.returns
 returns g c = λ low.
     let t = c.args.self.now in
-    let s = t.decreases.schema in
+    let s = t.measured.schema in
     let A = automaton (tables s) (sets g.D.Domain.holds s) in
     let B = permit (bit c.args.permitted) A in
     let q = c.args.state in

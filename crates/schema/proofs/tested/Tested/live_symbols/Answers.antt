@@ -11,7 +11,7 @@ use Rattle.schema.proofs.tested.Tested.live_symbols.Goals as goal
 pub returns : goal.returns
 returns g c = λ low mask a.
     let t = c.args.self.now in
-    let s = t.decreases.schema in
+    let s = t.measured.schema in
     let A = automaton (tables s) (sets g.D.Domain.holds s) in
     let B = permit (bit c.args.permitted) A in
     let q = c.args.state in

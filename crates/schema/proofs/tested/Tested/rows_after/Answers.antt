@@ -31,7 +31,7 @@ loop-symbol-preserved g c =
 pub returns : goal.returns
 returns g c =
     let t = c.args.self.now in
-    let T = tables t.decreases.schema in
-    let s = sound T (sets g.D.Domain.holds t.decreases.schema) t.sound in
-    after_all (RowEdge (automaton T (sets g.D.Domain.holds t.decreases.schema)) c.args.state (bit c.args.symbols)) c.args.row c.args.before c.loop-symbol.symbol c.loop-symbol.reached
+    let T = tables t.measured.schema in
+    let s = sound T (sets g.D.Domain.holds t.measured.schema) t.sound in
+    after_all (RowEdge (automaton T (sets g.D.Domain.holds t.measured.schema)) c.args.state (bit c.args.symbols)) c.args.row c.args.before c.loop-symbol.symbol c.loop-symbol.reached
     (λ a j e. omega (arith, s.step_symbol c.args.state c.args.row a j e.1, c.symbols-symbol-end.ensures, c.loop-symbol-test.false)) c.loop-symbol.invariant

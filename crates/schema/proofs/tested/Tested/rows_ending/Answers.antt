@@ -14,7 +14,7 @@ loop-row-init g c = λ low. gathered_none _
 pub loop-row-preserved : goal.loop-row-preserved
 loop-row-preserved g c = λ low.
     let t = c.args.self.now in
-    let s = t.decreases.schema in
+    let s = t.measured.schema in
     let k = c.loop-row.row in
     let Runs : ℕ → Type 0 = RunsOver (automaton (tables s) (sets g.D.Domain.holds s)) c.args.state (bit c.args.symbols) in
     let inside : k < row_count (tables s) c.args.state = subst (λ (n : ℕ). k < n) c.state_byte-row-end.ensures c.loop-row-test.true in

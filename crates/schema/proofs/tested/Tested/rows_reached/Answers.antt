@@ -10,9 +10,9 @@ use Rattle.schema.proofs.tested.Tested.rows_reached.Goals as goal
 pub loop-row-init : goal.loop-row-init
 loop-row-init g c = λ low inside.
     let t = c.args.self.now in
-    let T = tables t.decreases.schema in
-    let A = automaton T (sets g.D.Domain.holds t.decreases.schema) in
-    let s = sound T (sets g.D.Domain.holds t.decreases.schema) t.sound in
+    let T = tables t.measured.schema in
+    let A = automaton T (sets g.D.Domain.holds t.measured.schema) in
+    let s = sound T (sets g.D.Domain.holds t.measured.schema) t.sound in
     let q = c.args.state in
     let set = bit c.args.symbols in
     partly_start (RowEdge A q set) (LeadsOver A q set c.args.from) c.args.from (row_count T q) (omega (arith, (s.rows q low).to)) ([], tt, refl) (λ i a j l so e. leads_on A q set c.args.from i a j so e) (λ i a j l e. s.step_in q i a j low l e.1)
@@ -21,9 +21,9 @@ loop-row-init g c = λ low inside.
 pub loop-row-preserved : goal.loop-row-preserved
 loop-row-preserved g c = λ low inside.
     let t = c.args.self.now in
-    let T = tables t.decreases.schema in
-    let A = automaton T (sets g.D.Domain.holds t.decreases.schema) in
-    let s = sound T (sets g.D.Domain.holds t.decreases.schema) t.sound in
+    let T = tables t.measured.schema in
+    let A = automaton T (sets g.D.Domain.holds t.measured.schema) in
+    let s = sound T (sets g.D.Domain.holds t.measured.schema) t.sound in
     let q = c.args.state in
     let set = bit c.args.symbols in
     partly_more (RowEdge A q set) (LeadsOver A q set c.args.from) c.args.from (row_count T q) (omega (arith, (s.rows q low).to)) ([], tt, refl) (λ i a j l so e. leads_on A q set c.args.from i a j so e) (λ i a j l e. s.step_in q i a j low l e.1)
@@ -32,9 +32,9 @@ loop-row-preserved g c = λ low inside.
 pub returns : goal.returns
 returns g c = λ low inside.
     let t = c.args.self.now in
-    let T = tables t.decreases.schema in
-    let A = automaton T (sets g.D.Domain.holds t.decreases.schema) in
-    let s = sound T (sets g.D.Domain.holds t.decreases.schema) t.sound in
+    let T = tables t.measured.schema in
+    let A = automaton T (sets g.D.Domain.holds t.measured.schema) in
+    let s = sound T (sets g.D.Domain.holds t.measured.schema) t.sound in
     let q = c.args.state in
     let set = bit c.args.symbols in
     let so = c.loop-row.invariant low inside in

@@ -37,7 +37,7 @@ loop-symbol-preserved g c =
 pub returns : goal.returns
 returns g c = λ low a.
     let t = c.args.self.now in
-    let s = t.decreases.schema in
+    let s = t.measured.schema in
     let T = tables s in
     let A = automaton T (sets g.D.Domain.holds s) in
     let q = c.args.state in
