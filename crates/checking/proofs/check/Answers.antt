@@ -21,12 +21,12 @@ walked g c s =
     let bytes = c.args.tree.now in
     verdict (automaton (tables s) (sets g.D.Domain.holds s)) (whole (length bytes) s.symbols (read_tree (length bytes) s.symbols (length c.args.levels.now) bytes))
 
-pub returns-in-err-tested : goal.returns-in-err-tested
-returns-in-err-tested g c =
-    let p = err_from_is_err_and c.from-residual.result c.from-residual.ensures.1 in
-    let at = (goal.at.returns-in-err-tested g c).Start in
+pub returns-in_err-tested : goal.returns-in_err-tested
+returns-in_err-tested g c =
+    let p = err_from_is_err_and c.from_residual.result c.from_residual.ensures.1 in
+    let at = (goal.at.returns-in_err-tested g c).Start in
     record {
-      answer = p.1 ∙ ap Err p.2 ∙ sym (ap (λ o. unless o (walked g at c.args.schema.now)) c.in-err-tested.ensures);
+      answer = p.1 ∙ ap Err p.2 ∙ sym (ap (λ o. unless o (walked g at c.args.schema.now)) c.in_err-tested.ensures);
       trees = checks_trees;
       encodings = reads_encodings;
       bindings = accepted_is_bound;
@@ -35,8 +35,8 @@ returns-in-err-tested g c =
 pub returns : goal.returns
 returns g c =
     let at = (goal.at.returns g c).Start in
-    let t = c.in-ok-tested.tested in
-    let same = c.in-ok-tested.ensures in
+    let t = c.in_ok-tested.tested in
+    let same = c.in_ok-tested.ensures in
     record {
       answer = c.walk.ensures ∙ ap (λ o. unless o (walked g at t.measured.schema)) (sym (sound_tables (tables t.measured.schema) t.sound))
           ∙ ap (λ s. unless (table_fault (tables s)) (walked g at s)) same;

@@ -6,14 +6,14 @@ use Rattle.schema.specs.Tables.{tables, sets}
 use Rattle.schema.proofs.Sizes.{sized, sound_tables}
 use Rattle.trim.proofs.keep.Goals as goal
 
-pub returns-then-not-has-member : goal.returns-then-not-has-member
-returns-then-not-has-member g c =
+pub returns-then-not-has_member : goal.returns-then-not-has_member
+returns-then-not-has_member g c =
     let t = c.args.tested.now in
     let T = tables t.measured.schema in
     let some : 0 < T.states = omega (arith, (sized T t.measured.sized).states.from) in
     record {
       sound = sound_tables T t.sound;
-      dead = λ live. both_ways (bit c.live-over-live.result 0) (sym c.if-not-has-member.ensures) ((c.live-over-live.ensures.live 0).1 (some, live));
+      dead = λ live. both_ways (bit c.live_over-live.result 0) (sym c.if-not-has_member.ensures) ((c.live_over-live.ensures.live 0).1 (some, live));
       is = refl;
     }
 
@@ -21,6 +21,6 @@ pub returns : goal.returns
 returns g c =
     let t = c.args.tested.now in
     let T = tables t.measured.schema in
-    let start = sym c.if-not-has-member.ensures in
-    let exact = c.kept-states.ensures c.live-over-live.ensures.live start in
-    (refl, record { sound = sound_tables T t.sound; exact = exact; start = (exact 0).1 (((c.live-over-live.ensures.live 0).0 start).1, ([], refl)) })
+    let start = sym c.if-not-has_member.ensures in
+    let exact = c.kept_states.ensures c.live_over-live.ensures.live start in
+    (refl, record { sound = sound_tables T t.sound; exact = exact; start = (exact 0).1 (((c.live_over-live.ensures.live 0).0 start).1, ([], refl)) })

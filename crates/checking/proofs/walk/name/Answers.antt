@@ -6,17 +6,17 @@ use Rattle.schema.specs.Tables.{tables, automaton}
 use Rattle.checking.proofs.Stepping.{no_row, no_state, goes_on}
 use Rattle.checking.proofs.walk.name.Goals as goal
 
-pub returns-in-default-next-row : goal.returns-in-default-next-row
-returns-in-default-next-row g c =
+pub returns-in_default-next_row : goal.returns-in_default-next_row
+returns-in_default-next_row g c =
     record {
-      steps = λ ds. no_row (automaton (tables c.args.schema.now.measured.schema) ds) _ _ _ _ _ _ (sym c.top.ensures ∙ c.in-Some.is) (sym (c.next-row.ensures ds) ∙ c.in-default-next-row.is);
+      steps = λ ds. no_row (automaton (tables c.args.schema.now.measured.schema) ds) _ _ _ _ _ _ (sym c.top.ensures ∙ c.in-Some.is) (sym (c.next_row.ensures ds) ∙ c.in_default-next_row.is);
       same = refl;
     }
 
-pub returns-in-default-next-state : goal.returns-in-default-next-state
-returns-in-default-next-state g c =
+pub returns-in_default-next_state : goal.returns-in_default-next_state
+returns-in_default-next_state g c =
     record {
-      steps = λ ds. no_state (automaton (tables c.args.schema.now.measured.schema) ds) _ _ _ _ _ _ (sym c.top.ensures ∙ c.in-Some.is) _ (sym (c.next-row.ensures ds) ∙ c.in-Some-next-row.is) (sym (c.next-state.ensures ds) ∙ c.in-default-next-state.is);
+      steps = λ ds. no_state (automaton (tables c.args.schema.now.measured.schema) ds) _ _ _ _ _ _ (sym c.top.ensures ∙ c.in-Some.is) _ (sym (c.next_row.ensures ds) ∙ c.in-Some-next_row.is) (sym (c.next_state.ensures ds) ∙ c.in_default-next_state.is);
       same = refl;
     }
 
@@ -27,6 +27,6 @@ returns g c =
     let some = (top_split levels.slots.now levels.count c.in-Some.level levels.within on).0 in
     let written = c.replace.ensures.after ∙ cond-true (ltb 0 levels.count) _ _ (lt-ltb 0 levels.count some) in
     record {
-      steps = λ ds. goes_on (automaton (tables c.args.schema.now.measured.schema) ds) _ _ _ _ _ _ on _ _ _ (sym (c.next-row.ensures ds) ∙ c.in-Some-next-row.is) (sym (c.next-state.ensures ds) ∙ c.in-Some-next-state.is) written;
+      steps = λ ds. goes_on (automaton (tables c.args.schema.now.measured.schema) ds) _ _ _ _ _ _ on _ _ _ (sym (c.next_row.ensures ds) ∙ c.in-Some-next_row.is) (sym (c.next_state.ensures ds) ∙ c.in-Some-next_state.is) written;
       same = c.replace.ensures.same;
     }

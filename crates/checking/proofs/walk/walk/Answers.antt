@@ -15,14 +15,14 @@ use Rattle.checking.proofs.Stepping.{steps_long}
 use Rattle.checking.proofs.Outcome.{ended}
 use Rattle.checking.proofs.walk.walk.Given as given
 use Rattle.checking.proofs.walk.walk.Goals as goal
-use Rattle.checking.proofs.walk.walk.Goals.{In-Some, In-default, After-new-pile}
+use Rattle.checking.proofs.walk.walk.Goals.{In-Some, In_default, After-new-pile}
 
 -- what the reader handed out, as an item
 walked : (g : given.Over) (c : In-Some g) → Walks (record { state = c.loop-item.answer.state; row = 0 }) c.loop-item.reader.input.now c.loop-item.reader.place c.loop-item.reader.fresh c.loop-item.pile.slots.now c.loop-item.pile.count (Ok (Some c.in-Some.item)) c.next.new.self.input.now c.next.new.self.place c.next.new.self.fresh c.next.new.levels.slots.now c.next.new.levels.count
 walked g c =
-    let is : c.in-ok-item.field-0 ≡ Some c.in-Some.item = c.in-Some.is in
+    let is : c.in_ok-item.field-0 ≡ Some c.in-Some.item = c.in-Some.is in
     subst (λ o. Walks (record { state = c.loop-item.answer.state; row = 0 }) c.loop-item.reader.input.now c.loop-item.reader.place c.loop-item.reader.fresh c.loop-item.pile.slots.now c.loop-item.pile.count (Ok o) c.next.new.self.input.now c.next.new.self.place c.next.new.self.fresh c.next.new.levels.slots.now c.next.new.levels.count)
-    is c.in-ok-item.ensures
+    is c.in_ok-item.ensures
 
 -- the invariant's fact at the item
 module _ (g : given.Over) (c : In-Some g) where
@@ -93,21 +93,21 @@ loop-item-smaller-else-symbol-symbols g c =
     let w = handed g at (Symbol c.in-Symbol.symbol c.in-Symbol.field-1) c.in-Symbol.is in
     omega (arith, less_symbol _ _ _ _ _ _ _ _ _ _ _ _ c.loop-item.invariant.same_input c.loop-item.pile.within c.next.new.levels.within _ _ w, c.name-answer.ensures.same)
 
-pub returns-in-err-item : goal.returns-in-err-item
-returns-in-err-item g c =
-    let at = (goal.at.returns-in-err-item g c).After-new-pile in
+pub returns-in_err-item : goal.returns-in_err-item
+returns-in_err-item g c =
+    let at = (goal.at.returns-in_err-item g c).After-new-pile in
     let s = c.args.schema.now.measured.schema in
-    let p = err_from_is_err_and c.from-residual.result c.from-residual.ensures.1 in
-    lent g at c.from-residual.result
-    (stops (automaton (tables s) (sets g.D.Domain.holds s)) _ _ _ _ _ _ _ _ _ c.loop-item.invariant c.loop-item.pile.within _ _ _ _ _ _ c.in-err-item.ensures ∙ ap Err (sym p.2) ∙ sym p.1)
+    let p = err_from_is_err_and c.from_residual.result c.from_residual.ensures.1 in
+    lent g at c.from_residual.result
+    (stops (automaton (tables s) (sets g.D.Domain.holds s)) _ _ _ _ _ _ _ _ _ c.loop-item.invariant c.loop-item.pile.within _ _ _ _ _ _ c.in_err-item.ensures ∙ ap Err (sym p.2) ∙ sym p.1)
 
 -- the root has ended
-done : (g : given.Over) (c : In-default g) → (let s = c.args.schema.now.measured.schema in let A = automaton (tables s) (sets g.D.Domain.holds s) in the_verdict A s.symbols c.args.tree.now (length c.new-pile.result.slots.now) ≡ ended A (length c.args.tree.now) s.symbols c.loop-item.answer.accepted (drop c.next.new.self.place c.args.tree.now))
+done : (g : given.Over) (c : In_default g) → (let s = c.args.schema.now.measured.schema in let A = automaton (tables s) (sets g.D.Domain.holds s) in the_verdict A s.symbols c.args.tree.now (length c.new-pile.result.slots.now) ≡ ended A (length c.args.tree.now) s.symbols c.loop-item.answer.accepted (drop c.next.new.self.place c.args.tree.now))
 done g c =
     let s = c.args.schema.now.measured.schema in
     let A = automaton (tables s) (sets g.D.Domain.holds s) in
-    let is : c.in-ok-item.field-0 ≡ None = c.in-default.is in
-    let w = subst (λ o. Walks (record { state = c.loop-item.answer.state; row = 0 }) c.loop-item.reader.input.now c.loop-item.reader.place c.loop-item.reader.fresh c.loop-item.pile.slots.now c.loop-item.pile.count (Ok o) c.next.new.self.input.now c.next.new.self.place c.next.new.self.fresh c.next.new.levels.slots.now c.next.new.levels.count) is c.in-ok-item.ensures in
+    let is : c.in_ok-item.field-0 ≡ None = c.in_default.is in
+    let w = subst (λ o. Walks (record { state = c.loop-item.answer.state; row = 0 }) c.loop-item.reader.input.now c.loop-item.reader.place c.loop-item.reader.fresh c.loop-item.pile.slots.now c.loop-item.pile.count (Ok o) c.next.new.self.input.now c.next.new.self.place c.next.new.self.fresh c.next.new.levels.slots.now c.next.new.levels.count) is c.in_ok-item.ensures in
     over A _ _ _ _ _ _ _ _ _ c.loop-item.invariant c.loop-item.pile.within _ _ _ _ _ w
     ∙ ap (λ (bs : List ℕ). ended A (length bs) s.symbols c.loop-item.answer.accepted (drop c.next.new.self.place bs)) c.loop-item.invariant.same_input
 
@@ -117,7 +117,7 @@ returns-then-place-tree g c =
     let A = automaton (tables s) (sets g.D.Domain.holds s) in
     let at = goal.at.returns-then-place-tree g c in
     lent g at.After-new-pile _
-    (done g at.In-default ∙ ended_at A s.symbols _ c.args.tree.now c.next.new.self.place (omega (arith, c.place.ensures, c.if-place-tree.true))
+    (done g at.In_default ∙ ended_at A s.symbols _ c.args.tree.now c.next.new.self.place (omega (arith, c.place.ensures, c.if-place-tree.true))
     ∙ ap (λ (p : ℕ). Err (record { fault = fault.Rest; place = p })) (sym c.place-then-place-tree.ensures))
 
 pub returns : goal.returns
@@ -125,4 +125,4 @@ returns g c =
     let s = c.args.schema.now.measured.schema in
     let A = automaton (tables s) (sets g.D.Domain.holds s) in
     let at = goal.at.returns g c in
-    lent g at.After-new-pile _ (done g at.In-default ∙ ended_whole A s.symbols _ c.args.tree.now c.next.new.self.place (omega (arith, c.place.ensures, c.if-place-tree.false)))
+    lent g at.After-new-pile _ (done g at.In_default ∙ ended_whole A s.symbols _ c.args.tree.now c.next.new.self.place (omega (arith, c.place.ensures, c.if-place-tree.false)))

@@ -8,7 +8,7 @@ returns c =
     let pile = c.args.pile.now in
     record {
       answer = record {
-        new = sym c.is-listed.ensures ∙ c.if-is-listed.false;
+        new = sym c.is_listed.ensures ∙ c.if-is_listed.false;
         place = c.len-index.ensures;
         listed = c.list.ensures;
         long = pushed_long pile.slots.now pile.count c.args.pair _ _ _ c.push.ensures;

@@ -6,7 +6,7 @@ use Rattle.schema.proofs.Members.{bit_zero}
 use Rattle.search.proofs.listed.is_listed.Goals as goal
 
 pub returns-then-row-lt-MASKS : goal.returns-then-row-lt-MASKS
-returns-then-row-lt-MASKS c = c.has-member.ensures
+returns-then-row-lt-MASKS c = c.has_member.ensures
 
 pub returns-else-row-lt-MASKS : goal.returns-else-row-lt-MASKS
 returns-else-row-lt-MASKS c =

@@ -5,4 +5,4 @@ use Rattle.search.proofs.listed.list.Goals as goal
 
 pub returns-then-row-lt-MASKS : goal.returns-then-row-lt-MASKS
 returns-then-row-lt-MASKS c = λ inside low.
-    listed_more c.args.listed.now c.args.pair.row c.args.pair.watch c.with-member.result (omega (arith, c.told-listed)) low c.with-member.ensures.adds
+    listed_more c.args.listed.now c.args.pair.row c.args.pair.watch c.with_member.result (omega (arith, c.told-listed)) low c.with_member.ensures.adds

@@ -10,7 +10,7 @@ use Rattle.trim.proofs.Bytes.{transitions_length, states_length, rows_length}
 use Rattle.trim.proofs.Sound.{number_few, rows_few}
 use Rattle.trim.proofs.tables.has_room.Given as given
 use Rattle.trim.proofs.tables.has_room.Goals as goal
-use Rattle.trim.proofs.tables.has_room.Goals.{After-count-rows-row-count}
+use Rattle.trim.proofs.tables.has_room.Goals.{After-count_rows-row_count}
 
 -- a product of a small count and a small width
 small : (count width : ℕ) → count ≤ 1024 → width ≤ 33 → count * width ≤ 33792
@@ -31,45 +31,45 @@ last_of_three true true c first second = refl
 last_of_three true false c first second = absurd (both_ways false refl second)
 last_of_three false b c first second = absurd (both_ways false refl first)
 
-few : (g : given.Over) (c : After-count-rows-row-count g) → (c.count-states-state-count.result ≤ 64) × (c.count-rows-row-count.result ≤ 1024) × (c.symbols-symbols.result ≤ 32)
+few : (g : given.Over) (c : After-count_rows-row_count g) → (c.count_states-state_count.result ≤ 64) × (c.count_rows-row_count.result ≤ 1024) × (c.symbols-symbols.result ≤ 32)
 few g c =
     let t = c.args.tested.now in
     let T = tables t.measured.schema in
     let permitted = bit c.args.keeping.permitted in
     let kept = bit c.args.keeping.kept in (
-      omega (arith, c.count-states-state-count.ensures, number_few T permitted kept (sound_tables T t.sound) T.states (omega arith)),
-      omega (arith, c.count-rows-row-count.ensures, rows_few T permitted kept (sound_tables T t.sound) T.states (omega arith)),
+      omega (arith, c.count_states-state_count.ensures, number_few T permitted kept (sound_tables T t.sound) T.states (omega arith)),
+      omega (arith, c.count_rows-row_count.ensures, rows_few T permitted kept (sound_tables T t.sound) T.states (omega arith)),
       omega (arith, c.symbols-symbols.ensures, (sized T t.measured.sized).symbols.to),
     )
 
 -- the test, by the counts
-by_counts : (g : given.Over) (c : After-count-rows-row-count g) → (leb (c.count-states-state-count.result * c.symbols-symbols.result) (length c.args.transitions.now) && (leb (4 * c.count-states-state-count.result) (length c.args.states.now) && leb (c.count-rows-row-count.result * (c.symbols-symbols.result + 1)) (length c.args.rows.now))) ≡ fits (trimmed (tables c.args.tested.now.measured.schema) (bit c.args.keeping.permitted) (bit c.args.keeping.kept)) (outputs c.args.transitions.now c.args.states.now c.args.rows.now)
+by_counts : (g : given.Over) (c : After-count_rows-row_count g) → (leb (c.count_states-state_count.result * c.symbols-symbols.result) (length c.args.transitions.now) && (leb (4 * c.count_states-state_count.result) (length c.args.states.now) && leb (c.count_rows-row_count.result * (c.symbols-symbols.result + 1)) (length c.args.rows.now))) ≡ fits (trimmed (tables c.args.tested.now.measured.schema) (bit c.args.keeping.permitted) (bit c.args.keeping.kept)) (outputs c.args.transitions.now c.args.states.now c.args.rows.now)
 by_counts g c =
     let T = tables c.args.tested.now.measured.schema in
     let permitted = bit c.args.keeping.permitted in
     let kept = bit c.args.keeping.kept in
-    let states = c.count-states-state-count.ensures in
-    let rows = c.count-rows-row-count.ensures in
+    let states = c.count_states-state_count.ensures in
+    let rows = c.count_rows-row_count.ensures in
     let symbols = c.symbols-symbols.ensures in
     let t = (λ i. states i * symbols i) ∙ sym (transitions_length T permitted kept T.states) in
     let s = ap (λ (n : ℕ). 4 * n) states ∙ sym (states_length T permitted kept T.states) in
     let r = (λ i. rows i * (symbols i + 1)) ∙ sym (rows_length T permitted kept T.states) in
     λ i. leb (t i) (length c.args.transitions.now) && (leb (s i) (length c.args.states.now) && leb (r i) (length c.args.rows.now))
 
-pub overflow-mul-transitions-fit : goal.overflow-mul-transitions-fit
-overflow-mul-transitions-fit g c = let f = few g c in record { fits = omega (arith, small c.count-states-state-count.result c.symbols-symbols.result (omega (arith, f.0)) (omega (arith, f.2))) }
+pub overflow_mul-transitions_fit : goal.overflow_mul-transitions_fit
+overflow_mul-transitions_fit g c = let f = few g c in record { fits = omega (arith, small c.count_states-state_count.result c.symbols-symbols.result (omega (arith, f.0)) (omega (arith, f.2))) }
 
-pub overflow-mul-states-fit : goal.overflow-mul-states-fit
-overflow-mul-states-fit g c = record { fits = omega (arith, (few g c).0) }
+pub overflow_mul-states_fit : goal.overflow_mul-states_fit
+overflow_mul-states_fit g c = record { fits = omega (arith, (few g c).0) }
 
-pub overflow-mul-rows-fit : goal.overflow-mul-rows-fit
-overflow-mul-rows-fit g c = let f = few g c in record { fits = omega (arith, small c.count-rows-row-count.result (c.symbols-symbols.result + 1) f.1 (omega (arith, f.2))) }
+pub overflow_mul-rows_fit : goal.overflow_mul-rows_fit
+overflow_mul-rows_fit g c = let f = few g c in record { fits = omega (arith, small c.count_rows-row_count.result (c.symbols-symbols.result + 1) f.1 (omega (arith, f.2))) }
 
-pub returns-then-states-fit : goal.returns-then-states-fit
-returns-then-states-fit g c = last_of_three _ _ _ (le-leb _ _ c.if-transitions-fit.true) (le-leb _ _ c.if-states-fit.true) ∙ by_counts g (goal.at.returns-then-states-fit g c).After-count-rows-row-count
+pub returns-then-states_fit : goal.returns-then-states_fit
+returns-then-states_fit g c = last_of_three _ _ _ (le-leb _ _ c.if-transitions_fit.true) (le-leb _ _ c.if-states_fit.true) ∙ by_counts g (goal.at.returns-then-states_fit g c).After-count_rows-row_count
 
-pub returns-else-states-fit : goal.returns-else-states-fit
-returns-else-states-fit g c = second_of_three _ _ _ (le-leb _ _ c.if-transitions-fit.true) (lt-leb _ _ c.if-states-fit.false) ∙ by_counts g (goal.at.returns-else-states-fit g c).After-count-rows-row-count
+pub returns-else-states_fit : goal.returns-else-states_fit
+returns-else-states_fit g c = second_of_three _ _ _ (le-leb _ _ c.if-transitions_fit.true) (lt-leb _ _ c.if-states_fit.false) ∙ by_counts g (goal.at.returns-else-states_fit g c).After-count_rows-row_count
 
-pub returns-else-transitions-fit : goal.returns-else-transitions-fit
-returns-else-transitions-fit g c = first_of_three _ (leb (4 * c.count-states-state-count.result) (length c.args.states.now)) (leb (c.count-rows-row-count.result * (c.symbols-symbols.result + 1)) (length c.args.rows.now)) (lt-leb _ _ c.if-transitions-fit.false) ∙ by_counts g (goal.at.returns-else-transitions-fit g c).After-count-rows-row-count
+pub returns-else-transitions_fit : goal.returns-else-transitions_fit
+returns-else-transitions_fit g c = first_of_three _ (leb (4 * c.count_states-state_count.result) (length c.args.states.now)) (leb (c.count_rows-row_count.result * (c.symbols-symbols.result + 1)) (length c.args.rows.now)) (lt-leb _ _ c.if-transitions_fit.false) ∙ by_counts g (goal.at.returns-else-transitions_fit g c).After-count_rows-row_count
