@@ -20,7 +20,7 @@ loop-symbol-preserved g c =
     let i = c.args.place in
     let k = c.loop-symbol.symbol in
     let before = entries_of c.args.pairs.now in
-    let told = c.list-next.ensures in (
+    let told = c.list_next.ensures in (
       told.firsts ∙ inv.0,
       told.seconds ∙ inv.1,
       λ n m at led.

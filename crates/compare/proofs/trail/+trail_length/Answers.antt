@@ -9,8 +9,8 @@ returns-in-Some t c =
     let es = entries_of c.args.pairs.now in
     let is = sym c.led_to.ensures ∙ c.in-Some.is in
     record {
-      most = omega (arith, c.trail-length.ensures.most, (led_some es c.args.index c.in-Some.pair is).1);
-      count = trail_longer es c.args.index c.in-Some.pair c.trail-length.result is c.trail-length.ensures.count;
+      most = omega (arith, c.trail_length.ensures.most, (led_some es c.args.index c.in-Some.pair is).1);
+      count = trail_longer es c.args.index c.in-Some.pair c.trail_length.result is c.trail_length.ensures.count;
     }
 
 pub returns-in-None : goal.returns-in-None

@@ -2,5 +2,5 @@
 use Rattle.compare.proofs.trail.+trail_length.Given as goal
 
 -- the index falls
-abbrev pub decreases-trail-length : goal.decreases-trail-length
-decreases-trail-length l = l.index
+abbrev pub decreases-trail_length : goal.decreases-trail_length
+decreases-trail_length l = l.index

@@ -11,10 +11,10 @@ returns-after-place-output t c =
     let e = c.in-Some.pair in
     let is = sym c.led_to.ensures ∙ c.in-Some.is in
     record {
-      most = omega (arith, c.write-trail-place.ensures.most, (led_some es c.args.index e is).1);
+      most = omega (arith, c.write_trail-place.ensures.most, (led_some es c.args.index e is).1);
       written =
-          written_more es c.args.index e c.write-trail-place.result c.args.output.now c.write-trail-place.new.output c.if-place-output.output is c.write-trail-place.ensures.written
-          (λ low. elim c.if-place-output.branch [ then-place-output w ↦ w.output-is | else-place-output w ↦ absurd (omega (arith, low, w.if-place-output, c.write-trail-place.auto.output)) ]);
+          written_more es c.args.index e c.write_trail-place.result c.args.output.now c.write_trail-place.new.output c.if-place-output.output is c.write_trail-place.ensures.written
+          (λ low. elim c.if-place-output.branch [ then-place-output w ↦ w.output-is | else-place-output w ↦ absurd (omega (arith, low, w.if-place-output, c.write_trail-place.auto.output)) ]);
     }
 
 pub returns-in-None : goal.returns-in-None

@@ -2,5 +2,5 @@
 use Rattle.compare.proofs.trail.+write_trail.Given as goal
 
 -- the index falls
-abbrev pub decreases-write-trail : goal.decreases-write-trail
-decreases-write-trail l = l.index
+abbrev pub decreases-write_trail : goal.decreases-write_trail
+decreases-write_trail l = l.index

@@ -19,7 +19,7 @@ returns-in-Some c =
     let s = said c.args.area.now in
     let claim = c.args.claim in
     let w = broken_trail c.args.area.now in
-    let told = refused_told s claim.number claim.serial c.number.result c.serial.result c.refuses-claim.result c.refuses-claim.ensures c.number.ensures c.serial.ensures in
+    let told = refused_told s claim.number claim.serial c.number.result c.serial.result c.refuses_claim.result c.refuses_claim.ensures c.number.ensures c.serial.ensures in
     record {
       outcome = (w.0, w.1, (found_first (claim_refusal s claim.number claim.serial Write) (no_room c.args.output.now w.0) c.in-Some.refusal (told ∙ c.in-Some.is), refl, refl));
       one = one_trail;
@@ -32,13 +32,13 @@ returns-then-output-needed c =
     let claim = c.args.claim in
     let output = c.args.output.now in
     let w = broken_trail c.args.area.now in
-    let n = c.trail-length-needed.result in
-    let told = refused_told s claim.number claim.serial c.number.result c.serial.result c.refuses-claim.result c.refuses-claim.ensures c.number.ensures c.serial.ensures in
-    let long : n ≡ length w.0 = c.trail-length-needed.ensures.count w.0 (subst (λ (i : ℕ). Trail s.pairs i w.0) (sym c.broken-index-index.ensures) w.1) in
+    let n = c.trail_length-needed.result in
+    let told = refused_told s claim.number claim.serial c.number.result c.serial.result c.refuses_claim.result c.refuses_claim.ensures c.number.ensures c.serial.ensures in
+    let long : n ≡ length w.0 = c.trail_length-needed.ensures.count w.0 (subst (λ (i : ℕ). Trail s.pairs i w.0) (sym c.broken_index-index.ensures) w.1) in
     let room : no_room output w.0 ≡ Some (the_room n) =
     cond-true _ _ _ (lt-ltb (length output) (length w.0) (omega (arith, long, c.if-output-needed.true))) ∙ ap (λ (k : ℕ). Some (the_room k)) (sym long) in
     record {
-      outcome = (w.0, w.1, (found_next (claim_refusal s claim.number claim.serial Write) (no_room output w.0) (Some (the_room n)) (told ∙ c.in-default.is) room, refl, refl));
+      outcome = (w.0, w.1, (found_next (claim_refusal s claim.number claim.serial Write) (no_room output w.0) (Some (the_room n)) (told ∙ c.in_default.is) room, refl, refl));
       one = one_trail;
       every = every_trail;
     }
@@ -49,14 +49,14 @@ returns c =
     let claim = c.args.claim in
     let output = c.args.output.now in
     let w = broken_trail c.args.area.now in
-    let n = c.trail-length-needed.result in
-    let told = refused_told s claim.number claim.serial c.number.result c.serial.result c.refuses-claim.result c.refuses-claim.ensures c.number.ensures c.serial.ensures in
-    let trail : Trail s.pairs c.broken-index-index.result w.0 = subst (λ (i : ℕ). Trail s.pairs i w.0) (sym c.broken-index-index.ensures) w.1 in
-    let long : n ≡ length w.0 = c.trail-length-needed.ensures.count w.0 trail in
+    let n = c.trail_length-needed.result in
+    let told = refused_told s claim.number claim.serial c.number.result c.serial.result c.refuses_claim.result c.refuses_claim.ensures c.number.ensures c.serial.ensures in
+    let trail : Trail s.pairs c.broken_index-index.result w.0 = subst (λ (i : ℕ). Trail s.pairs i w.0) (sym c.broken_index-index.ensures) w.1 in
+    let long : n ≡ length w.0 = c.trail_length-needed.ensures.count w.0 trail in
     let room : no_room output w.0 ≡ None = cond-false _ _ _ (le-ltb (length output) (length w.0) (omega (arith, long, c.if-output-needed.false))) in
-    let put = c.write-trail-written.ensures.written w.0 trail (omega (arith, long, c.if-output-needed.false)) in
+    let put = c.write_trail-written.ensures.written w.0 trail (omega (arith, long, c.if-output-needed.false)) in
     record {
-      outcome = (w.0, w.1, (found_next (claim_refusal s claim.number claim.serial Write) (no_room output w.0) None (told ∙ c.in-default.is) room, put.0, refl, put.1));
+      outcome = (w.0, w.1, (found_next (claim_refusal s claim.number claim.serial Write) (no_room output w.0) None (told ∙ c.in_default.is) room, put.0, refl, put.1));
       one = one_trail;
       every = every_trail;
     }

@@ -12,6 +12,6 @@ returns g c =
     let p = c.args.place in
     let low = c.args.first % 256 in
     let high = c.args.first / 256 in
-    bytes_four out p c.state_byte.result c.state_byte-2.result low high c.requires.0
+    bytes_four out p c.state_byte.result c.state_byte-2.result low high c.requires.place_in_bounds
     ∙ ap (λ (n : ℕ). overwritten out p (n ∷ c.state_byte-2.result ∷ low ∷ high ∷ [])) c.state_byte.ensures
     ∙ ap (λ (n : ℕ). overwritten out p (domain_number T c.args.state ∷ n ∷ low ∷ high ∷ [])) c.state_byte-2.ensures

@@ -33,7 +33,7 @@ overflow_mul-number-then-has_member g c = record { fits = omega (arith, (here g 
 pub write_state-requires : goal.write_state-requires
 write_state-requires g c =
     let at = here g (goal.at.overflow_mul-number-then-has_member g c).Then-has_member in
-    (omega (arith, at.state_room, c.loop-state.auto.states), omega (arith, at.few_rows))
+    record { place_in_bounds = omega (arith, at.state_room, c.loop-state.auto.states); first_bound = omega (arith, at.few_rows) }
 
 pub overflow_mul-first : goal.overflow_mul-first
 overflow_mul-first g c = record { fits = omega (arith, (here g (goal.at.overflow_mul-first g c).Then-has_member).rows_room, ap (λ (n : ℕ). c.loop-state.first * (n + 1)) c.symbols-symbols.ensures) }

@@ -7,17 +7,17 @@ use Rattle.compare.specs.Schemas.{StatePair}
 use Rattle.compare.specs.Work.{Work, said}
 use Rattle.compare.proofs.Views.{kept_of, many_of, entries_fit}
 use Rattle.compare.proofs.area.Area.examine.Goals as goal
-use Rattle.compare.proofs.area.Area.examine.Goals.{in-Some-broken, in-default-broken}
+use Rattle.compare.proofs.area.Area.examine.Goals.{in-Some-broken, in_default-broken}
 
 -- the area with another count of examined pairs
 abbrev counted : ℕ → Work → Work
 counted n w = record { number = w.number; serial = w.serial; phase = w.phase; symbols = w.symbols; firsts = w.firsts; seconds = w.seconds; pairs = w.pairs; examined = n }
 
-pub returns-in-default : goal.returns-in-default
-returns-in-default g c = λ noted mask room. inl (sym c.entry.ensures.answer ∙ c.in-default.is, refl)
+pub returns-in_default : goal.returns-in_default
+returns-in_default g c = λ noted mask room. inl (sym c.entry.ensures.answer ∙ c.in_default.is, refl)
 
-pub overflow-add-self : goal.overflow-add-self
-overflow-add-self g c =
+pub overflow_add-self : goal.overflow_add-self
+overflow_add-self g c =
     let pairs = c.args.self.now.pairs in
     let low = inside_some (entries_of pairs) c.args.self.now.examined c.in-Some.pair (sym c.entry.ensures.answer ∙ c.in-Some.is) in
     record { fits = omega (arith, low, many_of pairs, (kept_of pairs).short) }
@@ -35,8 +35,8 @@ returns g c = λ noted mask room.
       at = at;
       outcome = elim c.match-broken.branch [
         | in-Some-broken w ↦ inl (w.in-Some-broken.kind, w.in-Some-broken.ensures.answer inside mask room, ap (λ (x : Area). counted (area.examined + 1) (said x)) w.self-is)
-        | in-default-broken w ↦
-            let on = w.go-on.ensures noted mask inside left in
-            inr (w.in-default-broken.ensures.answer inside mask room, (on.live, on.exact, ap (λ (x : Area). counted (area.examined + 1) (said x)) w.self-is ∙ ap (counted (area.examined + 1)) on.after))
+        | in_default-broken w ↦
+            let on = w.go_on.ensures noted mask inside left in
+            inr (w.in_default-broken.ensures.answer inside mask room, (on.live, on.exact, ap (λ (x : Area). counted (area.examined + 1) (said x)) w.self-is ∙ ap (counted (area.examined + 1)) on.after))
       ];
     })

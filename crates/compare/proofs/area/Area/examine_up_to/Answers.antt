@@ -22,13 +22,13 @@ loop-turn-preserved g c = λ noted mask room.
       noted_stays A B compared v (said c.examine.new.self) turn so.1,
     )
 
-pub returns-in-default : goal.returns-in-default
-returns-in-default g c = λ noted mask room.
+pub returns-in_default : goal.returns-in_default
+returns-in_default g c = λ noted mask room.
     record {
       taken = c.loop-turn.turn;
       few = omega (arith, c.loop-turn-test.true);
       turns = (c.loop-turn.invariant noted mask room).0;
-      until = λ runs. absurd (c.in-default.not-Examine (c.decide.ensures ∙ examined_where_runs c.loop-turn.self.phase runs));
+      until = λ runs. absurd (c.in_default.not-Examine (c.decide.ensures ∙ examined_where_runs c.loop-turn.self.phase runs));
     }
 
 pub returns : goal.returns

@@ -19,17 +19,17 @@ returns-then-place-length g c = λ noted mask at led.
     let A = first_automaton g.D.Domain.holds compared in
     let B = second_automaton g.D.Domain.holds compared in
     let w = said c.args.self.now in
-    let live = bit c.live-symbols-symbols.result in
+    let live = bit c.live_symbols-symbols.result in
     let p = c.args.pair.first in
     let q = c.args.pair.second in
     let i = c.args.place in
-    let told = c.list-nexts.ensures in
+    let told = c.list_nexts.ensures in
     let es = told.entries noted.firsts noted.seconds at led ∙ ap (λ (n : ℕ). with_nexts A B live p q i n w.pairs) (sym noted.symbols) in
     let all = permit_all (tables s) (sets g.D.Domain.holds s) (omega (arith, (sized (tables s) compared.first.now.measured.sized).symbols.to)) in
     let left = none_left (i + 1) c.length.result (with_nexts A B live p q i w.symbols w.pairs) (c.length.ensures.count ∙ ap length es) c.if-place-length.true in
     record {
       live = live;
-      exact = live_same A (permit (bit 18446744073709551615) A) all s.states compared.live p c.live-symbols-symbols.result c.live-symbols-symbols.ensures at.0 mask;
+      exact = live_same A (permit (bit 18446744073709551615) A) all s.states compared.live p c.live_symbols-symbols.result c.live_symbols-symbols.ensures at.0 mask;
       after = λ j. record { number = w.number; serial = w.serial; phase = left j; symbols = w.symbols; firsts = told.firsts j; seconds = told.seconds j; pairs = es j; examined = w.examined };
     }
 
@@ -40,16 +40,16 @@ returns-else-place-length g c = λ noted mask at led.
     let A = first_automaton g.D.Domain.holds compared in
     let B = second_automaton g.D.Domain.holds compared in
     let w = said c.args.self.now in
-    let live = bit c.live-symbols-symbols.result in
+    let live = bit c.live_symbols-symbols.result in
     let p = c.args.pair.first in
     let q = c.args.pair.second in
     let i = c.args.place in
-    let told = c.list-nexts.ensures in
+    let told = c.list_nexts.ensures in
     let es = told.entries noted.firsts noted.seconds at led ∙ ap (λ (n : ℕ). with_nexts A B live p q i n w.pairs) (sym noted.symbols) in
     let all = permit_all (tables s) (sets g.D.Domain.holds s) (omega (arith, (sized (tables s) compared.first.now.measured.sized).symbols.to)) in
     let left = one_left (i + 1) c.length.result (with_nexts A B live p q i w.symbols w.pairs) (c.length.ensures.count ∙ ap length es) c.if-place-length.false in
     record {
       live = live;
-      exact = live_same A (permit (bit 18446744073709551615) A) all s.states compared.live p c.live-symbols-symbols.result c.live-symbols-symbols.ensures at.0 mask;
+      exact = live_same A (permit (bit 18446744073709551615) A) all s.states compared.live p c.live_symbols-symbols.result c.live_symbols-symbols.ensures at.0 mask;
       after = λ j. record { number = w.number; serial = w.serial; phase = left j; symbols = w.symbols; firsts = told.firsts j; seconds = told.seconds j; pairs = es j; examined = w.examined };
     }

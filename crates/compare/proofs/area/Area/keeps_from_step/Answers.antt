@@ -8,4 +8,4 @@ use Rattle.compare.proofs.area.Area.keeps_from_step.Goals as goal
 pub returns-in-Some : goal.returns-in-Some
 returns-in-Some g c =
     by_claim (said c.args.self.now) (tables c.args.first.now.measured.schema) (tables c.args.second.now.measured.schema) c.args.number c.args.serial c.args.steps c.args.slots c.in-Some.refusal
-    (sym c.symbols.ensures ∙ c.if-symbols.false ∙ c.symbols-2.ensures) (sym c.refuses-claim.ensures ∙ c.in-Some.is)
+    (sym c.symbols.ensures ∙ c.if-symbols.false ∙ c.symbols-2.ensures) (sym c.refuses_claim.ensures ∙ c.in-Some.is)

@@ -4,8 +4,8 @@ use Rattle.compare.proofs.Steps.{kept_none}
 use Rattle.compare.proofs.Views.{determined}
 use Rattle.compare.proofs.pairs.Pairs.begin.Goals as goal
 
-pub invariant-of-self : goal.invariant-of-self
-invariant-of-self c = (kept_none c.min-self.result c.min-self-2.result (omega (arith, c.min-self.ensures)) (omega (arith, c.min-self-2.ensures)), tt)
+pub invariant_of-self : goal.invariant_of-self
+invariant_of-self c = record { sound = kept_none c.min-self.result c.min-self-2.result (omega (arith, c.min-self.ensures)) (omega (arith, c.min-self-2.ensures)) }
 
 pub returns : goal.returns
 returns c = record { firsts = c.min-self.ensures; seconds = c.min-self-2.ensures; none = refl; determined = determined }

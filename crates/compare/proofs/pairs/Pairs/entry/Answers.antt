@@ -6,8 +6,8 @@ use Rattle.compare.specs.Pairs.{blank}
 use Rattle.compare.proofs.Views.{kept_of, many_of, entries_fit, listed_once}
 use Rattle.compare.proofs.pairs.Pairs.entry.Goals as goal
 
-pub offset-bounds-self-index : goal.offset-bounds-self-index
-offset-bounds-self-index c = omega (arith, (kept_of c.args.self.now).short)
+pub offset_bounds-self-index : goal.offset_bounds-self-index
+offset_bounds-self-index c = omega (arith, (kept_of c.args.self.now).short)
 
 pub bounds-self-index : goal.bounds-self-index
 bounds-self-index c = omega (arith, (kept_of c.args.self.now).short)
