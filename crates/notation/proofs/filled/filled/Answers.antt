@@ -6,7 +6,7 @@ use Rattle.notation.proofs.filled.filled.Goals as goal
 
 pub loop-item-preserved : goal.loop-item-preserved
 loop-item-preserved g c =
-    let taken = ap is_ok c.in-ok-push.was in
+    let taken = ap is_ok c.in_ok-push.was in
     let pushed = chosen _ _ _ _ c.push.ensures.items taken in
     let longer = chosen _ _ _ _ c.push.ensures.len taken in (
       (search rules),

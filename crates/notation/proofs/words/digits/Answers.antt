@@ -9,6 +9,6 @@ use Rattle.notation.proofs.words.digits.Goals as goal
 pub returns : goal.returns
 returns c =
     let bs = c.args.text.now in
-    let plus = starts_char 43 bs c.starts-with.result c.starts-with.ensures.cases (omega arith) (omega arith) in
+    let plus = starts_char 43 bs c.starts_with.result c.starts_with.ensures.cases (omega arith) (omega arith) in
     subst (λ r. SomeIff r (IsNumeral 10 bs × (digits_value 10 bs < 2 ^ 32)) (digits_value 10 bs)) (sym c.ok.ensures.value)
     (plain_reads bs c.parse.result (λ p. let yes-plus = plus.1 p in search rules) c.parse.ensures.value.0)
