@@ -44,7 +44,7 @@ impl<D: Domain> Compared<'_, '_, '_, '_, D> {
     fn is_content_broken(&self, p: u8, q: u8, pairs: &mut [RowPair]) -> bool
         ensures { StatePair self.now p q → MarksLive D.Domain.holds self.now → 272 ≤ length pairs.old → Decides result (Broken (first_automaton D.Domain.holds self.now) (second_automaton D.Domain.holds self.now) Content p q) }
     {
-        let symbols = self.first.symbols_into(p, self.live, ALL_SYMBOLS);
+        let symbols = self.first.symbols_into(p, self.live);
         let mut pile = Pile::new(pairs);
         search(
             self.first,

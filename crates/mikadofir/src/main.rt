@@ -2,13 +2,13 @@
 use crate::domains::Domains;
 use crate::live::Live;
 use crate::trees::Trees;
-use crate::trim::Trim;
+use crate::trimming::Trim;
 
 mod domains;
 mod job;
 mod live;
 mod trees;
-mod trim;
+mod trimming;
 
 /// The job on domains: a line for each pair of a maker's and an engine's.
 const DOMAINS: &'static str = "domains.txt";

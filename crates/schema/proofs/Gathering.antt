@@ -9,7 +9,7 @@ use Rattle.domain.specs.Sets.{Empty, First, alone}
 use Rattle.schema.proofs.Bound.{passed}
 use Rattle.schema.proofs.Members.{bit_zero}
 use Rattle.schema.specs.Automata.{Automaton, passes, row_runs}
-use Rattle.schema.specs.Rows.{onward, leads, After, RowEdge, RunsOver, LeadsOver, Reached}
+use Rattle.schema.specs.Rows.{onward, leads, After, AfterEdge, RowEdge, RunsOverFrom, LeadsOver, Reached, ReachedFrom}
 
 -- a member of a set with one more
 pub in_one_more : (set more k i : ℕ) → bit more i ≡ (bit set i || (ltb k 64 && eqb k i)) → bit more i ≡ true → (bit set i ≡ true) ⊎ (k ≡ i)
@@ -27,14 +27,14 @@ module _ (Edge : ℕ → ℕ → ℕ → Type 0) (p before : ℕ) where
   abbrev pub Upto : ℕ → ℕ → ℕ → ℕ → Type 0
   Upto k i a j = (a < k) × Edge i a j
 
-  pub after_none : After (Upto 0) p before before
+  pub after_none : AfterEdge (Upto 0) p before before
   after_none = record { kept = λ i h. h; added = λ a j e low. absurd (omega (arith, e.0)); only = λ i h. inl h }
 
   wider : (k i : ℕ) → (a : ℕ) × Upto k p a i → (a : ℕ) × Upto (k + 1) p a i
   wider k i m = (m.0, (omega (arith, m.1.0), m.1.1))
 
   -- one label more, which leads nowhere
-  pub after_same : (k reached : ℕ) → After (Upto k) p before reached → ((j : ℕ) → Edge p k j → ⊥) → After (Upto (k + 1)) p before reached
+  pub after_same : (k reached : ℕ) → AfterEdge (Upto k) p before reached → ((j : ℕ) → Edge p k j → ⊥) → AfterEdge (Upto (k + 1)) p before reached
   after_same k reached so nothing =
       record {
         kept = so.kept;
@@ -47,7 +47,7 @@ module _ (Edge : ℕ → ℕ → ℕ → Type 0) (p before : ℕ) where
       }
 
   -- one label more, which leads to a number
-  pub after_more : (k reached more next : ℕ) → After (Upto k) p before reached → Edge p k next → ((j : ℕ) → Edge p k j → next ≡ j) → ((i : ℕ) → bit more i ≡ (bit reached i || (ltb next 64 && eqb next i))) → After (Upto (k + 1)) p before more
+  pub after_more : (k reached more next : ℕ) → AfterEdge (Upto k) p before reached → Edge p k next → ((j : ℕ) → Edge p k j → next ≡ j) → ((i : ℕ) → bit more i ≡ (bit reached i || (ltb next 64 && eqb next i))) → AfterEdge (Upto (k + 1)) p before more
   after_more k reached more next so here one adds =
       record {
         kept = λ i h. one_more_keeps reached more next i (adds i) (so.kept i h);
@@ -67,7 +67,7 @@ module _ (Edge : ℕ → ℕ → ℕ → Type 0) (p before : ℕ) where
       }
 
   -- all labels that lead anywhere were tried
-  pub after_all : (k reached : ℕ) → ((a j : ℕ) → Edge p a j → a < k) → After (Upto k) p before reached → After Edge p before reached
+  pub after_all : (k reached : ℕ) → ((a j : ℕ) → Edge p a j → a < k) → AfterEdge (Upto k) p before reached → AfterEdge Edge p before reached
   after_all k reached all so =
       record {
         kept = so.kept;
@@ -104,7 +104,7 @@ module _ (Edge : ℕ → ℕ → ℕ → Type 0) (Good : ℕ → Type 0) (from :
         let here = (and_parts (ltb row 64) (bit reached row) (and_parts (in_bits reached row) _ least.passes).0).1 in
         (here, so.inside row here)
 
-    pub partly_more : (reached done row done' reached' : ℕ) → Partly count reached done → First (alone (in_bits reached) (in_bits done)) row → ((i : ℕ) → bit done' i ≡ (bit done i || (ltb row 64 && eqb row i))) → After Edge row reached reached' → Partly count reached' done'
+    pub partly_more : (reached done row done' reached' : ℕ) → Partly count reached done → First (alone (in_bits reached) (in_bits done)) row → ((i : ℕ) → bit done' i ≡ (bit done i || (ltb row 64 && eqb row i))) → AfterEdge Edge row reached reached' → Partly count reached' done'
     partly_more reached done row done' reached' so least adds after =
         let here = partly_here reached done row so least in
         record {
@@ -154,6 +154,20 @@ module _ (A : Automaton) (q : ℕ) (set : ℕ → Bool) where
   pub leads_on : (r i a j : ℕ) → LeadsOver A q set r i → RowEdge A q set i a j → LeadsOver A q set r j
   leads_on r i a j so edge = (so.0 ++ a ∷ [], All-push (λ b. set b ≡ true) so.0 a so.1 edge.0, leads_push so.0 r i a j so.2 edge.1)
 
+  -- one symbol of the set is an edge
+  pub after_edge : (r before after : ℕ) → After A q set r before after → AfterEdge (RowEdge A q set) r before after
+  after_edge r before after so = record { kept = so.kept; added = λ a j e. so.added a j e.0 e.1; only = λ i h. ⊎_elim inl (λ m. inr (m.0, (m.1, m.2))) (so.only i h) }
+
+  pub after_symbol : (r before after : ℕ) → AfterEdge (RowEdge A q set) r before after → After A q set r before after
+  after_symbol r before after so = record { kept = so.kept; added = λ a j in-set is. so.added a j (in-set, is); only = λ i h. ⊎_elim inl (λ m. inr (m.0, m.1.0, m.1.1)) (so.only i h) }
+
+  -- what is reached from the first row
+  pub reached_from_first : (rows : ℕ) → Reached A q set rows → ReachedFrom A q set 0 rows
+  reached_from_first rows so = record { start = so.start; closed = λ i a j here e. so.closed i a j here e.0 e.1; only = so.only }
+
+  pub first_reaches : (rows : ℕ) → ReachedFrom A q set 0 rows → Reached A q set rows
+  first_reaches rows so = record { start = so.start; closed = λ i a j here in-set is. so.closed i a j here (in-set, is); only = so.only }
+
   -- a sequence that leads to a row from which another runs
   pub runs_on : (w u : List ℕ) (r i : ℕ) → leads A q r w ≡ Some i → row_runs A q i u ≡ true → row_runs A q r (w ++ u) ≡ true
   runs_on [] u r i to runs = subst (λ (n : ℕ). row_runs A q n u ≡ true) (sym (some_same to)) runs
@@ -164,11 +178,11 @@ module _ (A : Automaton) (q : ℕ) (set : ℕ → Bool) where
       by None more to = absurd (let z : ◌≡◌ {A = ℕ} 0 1 = cc in omega arith)
 
   -- a sequence that leads to a row where it may end runs there
-  pub ends_runs : (r i : ℕ) → LeadsOver A q set r i → A.ends q i ≡ true → RunsOver A q set r
+  pub ends_runs : (r i : ℕ) → LeadsOver A q set r i → A.ends q i ≡ true → RunsOverFrom A q set r
   ends_runs r i so ends = (so.0, so.1, subst (λ (u : List ℕ). row_runs A q r u ≡ true) (append-nil so.0) (runs_on so.0 [] r i so.2 ends))
 
   -- a sequence over the set ends at a row that was reached
-  pub ends_reached : (from rows : ℕ) → Reached A q set from rows → (w : List ℕ) (r : ℕ) → bit rows r ≡ true → All (λ a. set a ≡ true) w → row_runs A q r w ≡ true → (i : ℕ) × (bit rows i ≡ true) × (A.ends q i ≡ true)
+  pub ends_reached : (from rows : ℕ) → ReachedFrom A q set from rows → (w : List ℕ) (r : ℕ) → bit rows r ≡ true → All (λ a. set a ≡ true) w → row_runs A q r w ≡ true → (i : ℕ) × (bit rows i ≡ true) × (A.ends q i ≡ true)
   ends_reached from rows all [] r here over runs = (r, here, runs)
   ends_reached from rows all (a ∷ w) r here over runs =
       let next = passed (A.step q r a) (λ s. row_runs A q s w) runs in

@@ -10,7 +10,7 @@ use Rattle.domain.proofs.Digits.{lowest_first}
 use Rattle.schema.specs.Automata.{Automaton, passes, present, row_runs, has_next, allowed, accepts, accepts_all}
 use Rattle.schema.specs.Below.{count_below}
 use Rattle.schema.specs.Live.{Found, New, Rank, RankMask, Ranked}
-use Rattle.schema.specs.Rows.{RunsOver}
+use Rattle.schema.specs.Rows.{RunsOverFrom}
 use Rattle.schema.proofs.Bound.{passed}
 use Rattle.schema.proofs.Counting.{count_le, count_grows}
 use Rattle.schema.proofs.Gathering.{in_one_more, one_more_keeps, one_more_has}
@@ -41,7 +41,7 @@ module _ (P : ℕ → Type 0) where
   gathered_all set k n upto past so = let e : k ≡ n = omega arith in subst (λ (m : ℕ). (q : ℕ) → Decides (bit set q) ((q < m) × P q)) e so
 
 -- two sets with the same members have the same sequences
-pub runs_over_same : (A : Automaton) (q r : ℕ) (set other : ℕ → Bool) → ((a : ℕ) → set a ≡ other a) → RunsOver A q set r → RunsOver A q other r
+pub runs_over_same : (A : Automaton) (q r : ℕ) (set other : ℕ → Bool) → ((a : ℕ) → set a ≡ other a) → RunsOverFrom A q set r → RunsOverFrom A q other r
 runs_over_same A q r set other same h = (h.0, All-weaker (λ a. set a ≡ true) (λ a. other a ≡ true) (λ a in-set. sym (same a) ∙ in-set) h.0 h.1, h.2)
 
 -- the state accepts a tree lower than m

@@ -26,7 +26,7 @@ module _ (A : Automaton) where
 
   -- the state has a value and a sequence whose symbols all lead into the set of states
   abbrev pub Found : (ℕ → Bool) → ℕ → Type 0
-  Found states q = ((v : ℕ) × (A.has q v ≡ true)) × RunsOver A q (λ a. passes (A.next q a) states) 0
+  Found states q = ((v : ℕ) × (A.has q v ≡ true)) × RunsOver A q (λ a. passes (A.next q a) states)
 
   -- not in the set yet, and found over it
   abbrev pub New : (ℕ → Bool) → ℕ → Type 0

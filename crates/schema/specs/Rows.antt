@@ -10,7 +10,7 @@ onward (Some x) f = f x
 onward None f = None
 
 -- the numbers of a set, and those below 64 that an edge leads to from p
-pub record After (Edge : ℕ → ℕ → ℕ → Type 0) (p before after : ℕ) : Type 0 where
+pub record AfterEdge (Edge : ℕ → ℕ → ℕ → Type 0) (p before after : ℕ) : Type 0 where
   pub kept : (i : ℕ) → bit before i ≡ true → bit after i ≡ true
   pub added : (a j : ℕ) → Edge p a j → j < 64 → bit after j ≡ true
   pub only : (i : ℕ) → bit after i ≡ true → (bit before i ≡ true) ⊎ ((a : ℕ) × Edge p a i)
@@ -26,9 +26,13 @@ module _ (A : Automaton) (q : ℕ) where
     abbrev pub RowEdge : ℕ → ℕ → ℕ → Type 0
     RowEdge r a s = (set a ≡ true) × (A.step q r a ≡ Some s)
 
+    -- some sequence over the set runs from the first row to a row where it may end
+    abbrev pub RunsOver : Type 0
+    RunsOver = (w : List ℕ) × All (λ a. set a ≡ true) w × (row_runs A q 0 w ≡ true)
+
     -- some sequence over the set runs from row r to a row where it may end
-    abbrev pub RunsOver : ℕ → Type 0
-    RunsOver r = (w : List ℕ) × All (λ a. set a ≡ true) w × (row_runs A q r w ≡ true)
+    abbrev pub RunsOverFrom : ℕ → Type 0
+    RunsOverFrom r = (w : List ℕ) × All (λ a. set a ≡ true) w × (row_runs A q r w ≡ true)
 
     -- some sequence over the set leads from row r to row s
     abbrev pub LeadsOver : ℕ → ℕ → Type 0
@@ -38,8 +42,20 @@ module _ (A : Automaton) (q : ℕ) where
     abbrev pub Held : ℕ → Type 0
     Held a = (u v : List ℕ) × All (λ b. set b ≡ true) (u ++ a ∷ v) × (row_runs A q 0 (u ++ a ∷ v) ≡ true)
 
+    -- the rows of a set, and those that one symbol of the set leads to from row r
+    pub record After (r before after : ℕ) : Type 0 where
+      pub kept : (i : ℕ) → bit before i ≡ true → bit after i ≡ true
+      pub added : (a j : ℕ) → set a ≡ true → A.step q r a ≡ Some j → j < 64 → bit after j ≡ true
+      pub only : (i : ℕ) → bit after i ≡ true → (bit before i ≡ true) ⊎ ((a : ℕ) × (set a ≡ true) × (A.step q r a ≡ Some i))
+
+    -- exactly the rows that sequences over the set lead to from the first row
+    pub record Reached (rows : ℕ) : Type 0 where
+      pub start : bit rows 0 ≡ true
+      pub closed : (i a j : ℕ) → bit rows i ≡ true → set a ≡ true → A.step q i a ≡ Some j → bit rows j ≡ true
+      pub only : (i : ℕ) → bit rows i ≡ true → (w : List ℕ) × All (λ a. set a ≡ true) w × (leads 0 w ≡ Some i)
+
     -- exactly the rows that sequences over the set lead to from row r
-    pub record Reached (r rows : ℕ) : Type 0 where
+    pub record ReachedFrom (r rows : ℕ) : Type 0 where
       pub start : bit rows r ≡ true
       pub closed : (i a j : ℕ) → bit rows i ≡ true → RowEdge i a j → bit rows j ≡ true
       pub only : (i : ℕ) → bit rows i ≡ true → LeadsOver r i

@@ -62,7 +62,7 @@ impl<D: Domain> Tested<'_, D> {
         let Some(_) = self.least(state) else {
             return false;
         };
-        self.has_sequence(state, 0, self.symbols_into(state, live, permitted))
+        self.has_sequence(state, self.symbols_into_over(state, live, permitted))
     }
 
     /// The states that a round over the set finds.

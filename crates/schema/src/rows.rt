@@ -3,9 +3,10 @@ ghost use Rattle.std.specs.Prelude.{◌≡◌, ℕ, ◌<◌, ◌&&◌, if◌then
 ghost use Rattle.domain.specs.Kinds.{bit};
 ghost use Rattle.schema.specs.Automata.{passes};
 ghost use Rattle.schema.specs.Permitted.{permit};
-ghost use Rattle.schema.specs.Rows.{After, RowEdge, Reached, RunsOver};
+ghost use Rattle.schema.specs.Rows.{After, Reached, ReachedFrom, RunsOver, RunsOverFrom};
 ghost use Rattle.schema.specs.Tables.{tables, sets, automaton, row_count};
 
+use crate::live::ALL_SYMBOLS;
 use crate::sets::{has_member, with_member};
 use crate::tested::Tested;
 use domain::domain::Domain;
@@ -26,7 +27,7 @@ impl<D: Domain> Tested<'_, D> {
     }
 
     /// The permitted symbols that lead from the state into a set of states.
-    pub fn symbols_into(&self, state: u8, states: u64, permitted: u64) -> u64
+    pub fn symbols_into_over(&self, state: u8, states: u64, permitted: u64) -> u64
         ensures { (a : ℕ) → bit result a ≡ passes ((permit (bit permitted) (automaton (tables self.now.measured.schema) (sets D.Domain.holds self.now.measured.schema))).next state a) (bit states) }
     {
         let mut found = 0;
@@ -36,6 +37,13 @@ impl<D: Domain> Tested<'_, D> {
             }
         }
         found
+    }
+
+    /// The symbols that lead from the state into a set of states.
+    pub fn symbols_into(&self, state: u8, states: u64) -> u64
+        ensures { (a : ℕ) → bit result a ≡ passes ((automaton (tables self.now.measured.schema) (sets D.Domain.holds self.now.measured.schema)).next state a) (bit states) }
+    {
+        self.symbols_into_over(state, states, ALL_SYMBOLS)
     }
 
     /// The row after a row under a symbol, where the symbol is in the set.
@@ -51,7 +59,7 @@ impl<D: Domain> Tested<'_, D> {
 
     /// The rows reached before, and those that follow a row under the symbols of the set.
     fn rows_after(&self, state: u8, row: u8, symbols: u64, before: u64) -> u64
-        ensures { After (RowEdge (automaton (tables self.now.measured.schema) (sets D.Domain.holds self.now.measured.schema)) state (bit symbols)) row before result }
+        ensures { After (automaton (tables self.now.measured.schema) (sets D.Domain.holds self.now.measured.schema)) state (bit symbols) row before result }
     {
         let mut reached = before;
         for symbol in 0..self.symbols() {
@@ -63,8 +71,8 @@ impl<D: Domain> Tested<'_, D> {
     }
 
     /// The rows that sequences over the set lead to from a row of the state.
-    pub fn rows_reached(&self, state: u8, from: u8, symbols: u64) -> u64
-        ensures { state < self.now.measured.schema.states → from < row_count (tables self.now.measured.schema) state → Reached (automaton (tables self.now.measured.schema) (sets D.Domain.holds self.now.measured.schema)) state (bit symbols) from result }
+    pub fn rows_reached_from(&self, state: u8, from: u8, symbols: u64) -> u64
+        ensures { state < self.now.measured.schema.states → from < row_count (tables self.now.measured.schema) state → ReachedFrom (automaton (tables self.now.measured.schema) (sets D.Domain.holds self.now.measured.schema)) state (bit symbols) from result }
     {
         let mut reached = with_member(0, from);
         let mut done = 0;
@@ -75,6 +83,13 @@ impl<D: Domain> Tested<'_, D> {
         reached
     }
 
+    /// The rows that sequences over the set lead to from the first row.
+    pub fn rows_reached(&self, state: u8, symbols: u64) -> u64
+        ensures { state < self.now.measured.schema.states → Reached (automaton (tables self.now.measured.schema) (sets D.Domain.holds self.now.measured.schema)) state (bit symbols) result }
+    {
+        self.rows_reached_from(state, 0, symbols)
+    }
+
     /// Whether a row was reached and a sequence may end there.
     fn ends_at(&self, state: u8, row: u8, reached: u64) -> bool
         ensures { result ≡ (bit reached row && (automaton (tables self.now.measured.schema) (sets D.Domain.holds self.now.measured.schema)).ends state row) }
@@ -83,15 +98,22 @@ impl<D: Domain> Tested<'_, D> {
     }
 
     /// Whether some sequence over the set runs from a row of the state to a row where it may end.
-    pub fn has_sequence(&self, state: u8, from: u8, symbols: u64) -> bool
-        ensures { state < self.now.measured.schema.states → from < row_count (tables self.now.measured.schema) state → Decides result (RunsOver (automaton (tables self.now.measured.schema) (sets D.Domain.holds self.now.measured.schema)) state (bit symbols) from) }
+    pub fn has_sequence_from(&self, state: u8, from: u8, symbols: u64) -> bool
+        ensures { state < self.now.measured.schema.states → from < row_count (tables self.now.measured.schema) state → Decides result (RunsOverFrom (automaton (tables self.now.measured.schema) (sets D.Domain.holds self.now.measured.schema)) state (bit symbols) from) }
     {
-        let reached = self.rows_reached(state, from, symbols);
+        let reached = self.rows_reached_from(state, from, symbols);
         for row in 0..self.measured.state_byte(state, 1) {
             if self.ends_at(state, row, reached) {
                 return true;
             }
         }
         false
+    }
+
+    /// Whether some sequence over the set runs from the first row to a row where it may end.
+    pub fn has_sequence(&self, state: u8, symbols: u64) -> bool
+        ensures { state < self.now.measured.schema.states → Decides result (RunsOver (automaton (tables self.now.measured.schema) (sets D.Domain.holds self.now.measured.schema)) state (bit symbols)) }
+    {
+        self.has_sequence_from(state, 0, symbols)
     }
 }

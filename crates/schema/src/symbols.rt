@@ -5,7 +5,7 @@ ghost use Rattle.schema.specs.Automata.{passes};
 ghost use Rattle.schema.specs.Below.{«some_below»};
 ghost use Rattle.schema.specs.Live.{LiveMask, LiveSymbol};
 ghost use Rattle.schema.specs.Permitted.{permit};
-ghost use Rattle.schema.specs.Rows.{Held, RunsOver};
+ghost use Rattle.schema.specs.Rows.{Held, RunsOverFrom};
 ghost use Rattle.schema.specs.Tables.{tables, sets, automaton, row_count};
 
 use crate::sets::{has_member, with_member};
@@ -15,11 +15,11 @@ use domain::domain::Domain;
 impl<D: Domain> Tested<'_, D> {
     /// The rows of the state from which a sequence over the set runs to a row where it may end.
     fn rows_ending(&self, state: u8, symbols: u64) -> u64
-        ensures { state < self.now.measured.schema.states → (i : ℕ) → Decides (bit result i) ((i < row_count (tables self.now.measured.schema) state) × RunsOver (automaton (tables self.now.measured.schema) (sets D.Domain.holds self.now.measured.schema)) state (bit symbols) i) }
+        ensures { state < self.now.measured.schema.states → (i : ℕ) → Decides (bit result i) ((i < row_count (tables self.now.measured.schema) state) × RunsOverFrom (automaton (tables self.now.measured.schema) (sets D.Domain.holds self.now.measured.schema)) state (bit symbols) i) }
     {
         let mut ending = 0;
         for row in 0..self.measured.state_byte(state, 1) {
-            if self.has_sequence(state, row, symbols) {
+            if self.has_sequence_from(state, row, symbols) {
                 ending = with_member(ending, row);
             }
         }
@@ -55,7 +55,7 @@ impl<D: Domain> Tested<'_, D> {
     pub fn symbols_held(&self, state: u8, symbols: u64) -> u64
         ensures { state < self.now.measured.schema.states → (a : ℕ) → Decides (bit result a) (Held (automaton (tables self.now.measured.schema) (sets D.Domain.holds self.now.measured.schema)) state (bit symbols) a) }
     {
-        let reached = self.rows_reached(state, 0, symbols);
+        let reached = self.rows_reached(state, symbols);
         let ending = self.rows_ending(state, symbols);
         let mut held = 0;
         for symbol in 0..self.symbols() {
@@ -72,6 +72,6 @@ impl<D: Domain> Tested<'_, D> {
     pub fn live_symbols(&self, state: u8, live: u64, permitted: u64) -> u64
         ensures { state < self.now.measured.schema.states → LiveMask (permit (bit permitted) (automaton (tables self.now.measured.schema) (sets D.Domain.holds self.now.measured.schema))) self.now.measured.schema.states live → (a : ℕ) → Decides (bit result a) (LiveSymbol (permit (bit permitted) (automaton (tables self.now.measured.schema) (sets D.Domain.holds self.now.measured.schema))) state a) }
     {
-        self.symbols_held(state, self.symbols_into(state, live, permitted))
+        self.symbols_held(state, self.symbols_into_over(state, live, permitted))
     }
 }

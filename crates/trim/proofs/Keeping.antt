@@ -4,7 +4,7 @@ use Rattle.domain.specs.Kinds.{bit}
 use Rattle.schema.specs.Automata.{Automaton}
 use Rattle.schema.specs.Live.{LiveSymbol, LivePath}
 use Rattle.schema.specs.Permitted.{permit}
-use Rattle.schema.specs.Rows.{After}
+use Rattle.schema.specs.Rows.{AfterEdge}
 use Rattle.schema.proofs.Gathering.{chosen_some, some_same}
 use Rattle.trim.specs.Kept.{LedTo}
 use Rattle.trim.proofs.Paths.{live_leads}
@@ -15,7 +15,7 @@ LiveEdge A p a s = LiveSymbol A p a × (A.next p a ≡ Some s)
 
 module _ (A : Automaton) (permitted : ℕ → Bool) where
   -- what follows under the live symbols, looked up as if every symbol were permitted
-  pub after_live : (set : ℕ → Bool) (p before after : ℕ) → ((a : ℕ) → Decides (set a) (LiveSymbol (permit permitted A) p a)) → After (LedTo A set) p before after → After (LiveEdge (permit permitted A)) p before after
+  pub after_live : (set : ℕ → Bool) (p before after : ℕ) → ((a : ℕ) → Decides (set a) (LiveSymbol (permit permitted A) p a)) → AfterEdge (LedTo A set) p before after → AfterEdge (LiveEdge (permit permitted A)) p before after
   after_live set p before after exact so =
       record {
         kept = so.kept;

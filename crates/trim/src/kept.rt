@@ -3,7 +3,7 @@ ghost use Rattle.std.specs.Prelude.{◌≡◌, ℕ, true, Decides};
 ghost use Rattle.domain.specs.Kinds.{bit};
 ghost use Rattle.schema.specs.Live.{LiveMask};
 ghost use Rattle.schema.specs.Permitted.{permit};
-ghost use Rattle.schema.specs.Rows.{After};
+ghost use Rattle.schema.specs.Rows.{AfterEdge};
 ghost use Rattle.schema.specs.Tables.{tables, sets, automaton};
 ghost use Rattle.trim.specs.Kept.{Kept, LedTo};
 
@@ -17,7 +17,7 @@ pub(crate) const START: u8 = 0;
 
 /// The states of a set, and those that follow a state under the symbols of another set.
 fn states_after<D: Domain>(tested: &Tested<D>, state: u8, symbols: u64, before: u64) -> u64
-    ensures { After (LedTo (automaton (tables tested.now.measured.schema) (sets D.Domain.holds tested.now.measured.schema)) (bit symbols)) state before result }
+    ensures { AfterEdge (LedTo (automaton (tables tested.now.measured.schema) (sets D.Domain.holds tested.now.measured.schema)) (bit symbols)) state before result }
 {
     let mut reached = before;
     for symbol in 0..tested.symbols() {

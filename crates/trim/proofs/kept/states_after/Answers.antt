@@ -2,7 +2,7 @@
 use Rattle.std.proofs.Common.{◌≡◌, ℕ, ◌+◌, ◌<◌, sym, ◌∙◌, subst, arith}
 use Rattle.std.proofs.lemmas.Bool.{both_ways}
 use Rattle.domain.specs.Kinds.{bit}
-use Rattle.schema.specs.Rows.{After}
+use Rattle.schema.specs.Rows.{AfterEdge}
 use Rattle.schema.specs.Tables.{tables, sets, automaton}
 use Rattle.schema.proofs.Gathering.{Upto, after_none, after_same, after_more, after_all, some_same}
 use Rattle.schema.proofs.Sound.{some_not_none, sound}
@@ -24,10 +24,10 @@ loop-symbol-preserved g c =
     elim c.match-next_state.branch [
       | in-Some w ↦
           let is = sym told ∙ w.in-Some.is in
-          subst (After (Upto Edge q c.args.before (k + 1)) q c.args.before) (sym w.reached-is)
+          subst (AfterEdge (Upto Edge q c.args.before (k + 1)) q c.args.before) (sym w.reached-is)
           (after_more Edge q c.args.before k c.loop-symbol.reached w.with_member-reached.result w.in-Some.next c.loop-symbol.invariant (sym c.if-not-has_member.ensures, is) (λ j e. some_same (sym is ∙ e.1)) w.with_member-reached.ensures.adds)
       | in_default w ↦
-          subst (After (Upto Edge q c.args.before (k + 1)) q c.args.before) (sym w.reached-is)
+          subst (AfterEdge (Upto Edge q c.args.before (k + 1)) q c.args.before) (sym w.reached-is)
           (after_same Edge q c.args.before k c.loop-symbol.reached c.loop-symbol.invariant (λ j e. some_not_none (sym e.1 ∙ sym told ∙ w.in_default.is)))
     ]
 

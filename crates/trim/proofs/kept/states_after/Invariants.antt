@@ -1,6 +1,6 @@
 -- The states that the symbols so far lead to. Assumes nothing.
 use Rattle.domain.specs.Kinds.{bit}
-use Rattle.schema.specs.Rows.{After}
+use Rattle.schema.specs.Rows.{AfterEdge}
 use Rattle.schema.specs.Tables.{tables, sets, automaton}
 use Rattle.schema.proofs.Gathering.{Upto}
 use Rattle.trim.specs.Kept.{LedTo}
@@ -9,4 +9,4 @@ use Rattle.trim.proofs.kept.states_after.Given as goal
 abbrev pub invariant-loop-symbol : goal.invariant-loop-symbol
 invariant-loop-symbol g l =
     let s = l.tested.measured.schema in
-    After (Upto (LedTo (automaton (tables s) (sets g.D.Domain.holds s)) (bit l.symbols)) l.state l.before l.symbol) l.state l.before l.reached
+    AfterEdge (Upto (LedTo (automaton (tables s) (sets g.D.Domain.holds s)) (bit l.symbols)) l.state l.before l.symbol) l.state l.before l.reached

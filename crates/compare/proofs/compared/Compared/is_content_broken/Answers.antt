@@ -27,8 +27,7 @@ returns g c = λ there mask room.
     let p = c.args.p in
     let q = c.args.q in
     let symbols = c.symbols_into-symbols.result in
-    let all = permit_all (tables s) (sets holds s) (omega (arith, (sized (tables s) t.measured.sized).symbols.to)) in
-    let same = subst (λ (X : Automaton). (a : ℕ) → bit symbols a ≡ passes (X.next p a) (bit compared.live)) all c.symbols_into-symbols.ensures in
+    let same = c.symbols_into-symbols.ensures in
     let found = c.search.ensures.answer there.0 c.new-pile.ensures.empty (omega (arith, ap length c.new-pile.ensures.over)) in
     subst (λ (b : Bool). Decides b (Broken A B Content p q)) (sym c.is_some.ensures)
     (found_breaks A B s.states compared.live p q there.0 (sound (tables s) (sets holds s) t.sound).next_in mask (bit symbols) same W (c.new.ensures.means there.1) _ c.search.result found)

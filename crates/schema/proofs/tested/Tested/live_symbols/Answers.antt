@@ -17,8 +17,8 @@ returns g c = λ low mask a.
     let q = c.args.state in
     let inside = permit_inside (bit c.args.permitted) (tables s) (sets g.D.Domain.holds s) t.sound in
     let held = c.symbols_held.ensures low a in
-    let same = c.symbols_into.ensures in
+    let same = c.symbols_into_over.ensures in
     let rows = permit_runs (bit c.args.permitted) A q 0 in (
-      λ h. live_of_held B s.states c.args.live q low inside mask a (held_same A B q (bit c.symbols_into.result) (λ b. passes (B.next q b) (bit c.args.live)) same (λ w. sym (rows w)) a (held.0 h)),
-      λ h. held.1 (held_same B A q (λ b. passes (B.next q b) (bit c.args.live)) (bit c.symbols_into.result) (λ b. sym (same b)) rows a (held_of_live B s.states c.args.live q low inside mask a h)),
+      λ h. live_of_held B s.states c.args.live q low inside mask a (held_same A B q (bit c.symbols_into_over.result) (λ b. passes (B.next q b) (bit c.args.live)) same (λ w. sym (rows w)) a (held.0 h)),
+      λ h. held.1 (held_same B A q (λ b. passes (B.next q b) (bit c.args.live)) (bit c.symbols_into_over.result) (λ b. sym (same b)) rows a (held_of_live B s.states c.args.live q low inside mask a h)),
     )

@@ -6,6 +6,7 @@ use Rattle.schema.specs.Automata.{passes}
 use Rattle.schema.specs.Below.{some_below}
 use Rattle.schema.specs.Tables.{tables, sets, automaton, row_count}
 use Rattle.schema.proofs.Bound.{passed}
+use Rattle.schema.proofs.Gathering.{reached_from_first}
 use Rattle.schema.proofs.Holding.{held_of, of_held}
 use Rattle.schema.proofs.Members.{gathered, passed_over}
 use Rattle.schema.proofs.Searches.{some_tells}
@@ -45,7 +46,7 @@ returns g c = λ low a.
     let set = bit c.args.symbols in
     let some : 0 < row_count T q = omega (arith, (kept.rows q low).from) in
     let stays = λ (i b j : ℕ) (inside : i < row_count T q) (is : A.step q i b ≡ Some j). kept.step_in q i b j low inside is in
-    let rows = c.rows_reached-reached.ensures low some in
+    let rows = reached_from_first A q set c.rows_reached-reached.result (c.rows_reached-reached.ensures low) in
     let ends = c.rows_ending-ending.ensures low in
     let on_the_way : ℕ → Bool = λ i. bit c.rows_reached-reached.result i && passes (A.step q i a) (bit c.rows_ending-ending.result) in
     let n = c.loop-symbol.symbol in

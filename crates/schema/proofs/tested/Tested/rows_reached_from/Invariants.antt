@@ -4,7 +4,7 @@ use Rattle.domain.specs.Kinds.{bit}
 use Rattle.schema.specs.Rows.{RowEdge, LeadsOver}
 use Rattle.schema.specs.Tables.{tables, sets, automaton, row_count}
 use Rattle.schema.proofs.Gathering.{Partly}
-use Rattle.schema.proofs.tested.Tested.rows_reached.Given as goal
+use Rattle.schema.proofs.tested.Tested.rows_reached_from.Given as goal
 
 abbrev pub invariant-loop-row : goal.invariant-loop-row
 invariant-loop-row g l =
