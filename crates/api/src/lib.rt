@@ -1,4 +1,5 @@
 //! The one door for callers: the public calls and types, by name, and nothing else.
+#![tactic(auto)]
 
 pub use checking::check;
 pub use checking::cursor::Cursor;

@@ -1,4 +1,6 @@
 //! The test program: answers each case on its input by the public calls, a line each, for a comparison with what was computed apart from it.
+#![tactic(auto)]
+
 use crate::answer::Answer;
 use crate::trees::Shelf;
 use notation::trouble::Trouble;

@@ -1,5 +1,5 @@
 -- What is left to do in the middle of a tree, and that each item leaves the outcome as it was. Assumes nothing.
-use Rattle.std.proofs.Common.{◌≡◌, ℕ, zero, suc, ◌+◌, ◌-◌, ◌<◌, ◌≤◌, Bool, true, false, cond, ◌&&◌, ltb, List, [], ◌∷◌, ◌++◌, reverse, length, get_or, take, set, Some, None, Ok, Err, Option, Result, sym, refl, ap, ◌∙◌, subst, ⊎_elim, arith}
+use Rattle.std.proofs.Common.{◌≡◌, ℕ, suc, ◌+◌, ◌-◌, ◌<◌, ◌≤◌, Bool, true, false, cond, ◌&&◌, ltb, List, [], ◌∷◌, ◌++◌, reverse, length, get_or, take, set, Some, None, Ok, Err, Option, Result, sym, refl, ap, ◌∙◌, subst, ⊎_elim, arith}
 use mathlib.Core.List.{reverse-append}
 use Rattle.std.proofs.lemmas.List.{length_push, length-take-le, take_more, take_more_set, same_from_push}
 use Rattle.std.proofs.lemmas.Bool.{true≢false, cond-true, cond-false, lt-ltb, le-ltb}
@@ -11,7 +11,7 @@ use Rattle.codec.specs.Piles.{entries, topmost}
 use Rattle.codec.proofs.Walking.{topmost_of}
 use Rattle.codec.specs.Numbers.{Got, got, stop, read_number, refused}
 use Rattle.codec.specs.Reading.{then, read_symbol, read_children, read_tree, whole}
-use Rattle.codec.specs.Trees.{Tree, node, Children, none, child, word}
+use Rattle.codec.specs.Trees.{Tree, node, Children, child, word}
 use Rattle.schema.specs.Automata.{Automaton, passes, present, row_runs, has_next, accepts, accepts_all}
 use Rattle.checking.specs.declared.cursor.Answer.{Answer}
 use Rattle.checking.specs.declared.cursor.Cursor.{Cursor}

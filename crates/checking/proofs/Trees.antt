@@ -1,5 +1,5 @@
 -- The answer is that of a tree exactly where the bytes are its encoding. Assumes nothing.
-use Rattle.std.proofs.Common.{◌≡◌, ℕ, ◌^◌, ◌<◌, ◌≤◌, Bool, List, [], ◌∷◌, length, Some, None, Ok, Err, Option, Result, sym, refl, ap, ◌∙◌, subst, arith}
+use Rattle.std.proofs.Common.{◌≡◌, ℕ, ◌^◌, ◌<◌, ◌≤◌, Bool, List, [], ◌∷◌, length, Some, None, Ok, Err, Option, Result, refl, ap, ◌∙◌, arith}
 use Rattle.std.specs.List.{AllByRecursion as All}
 use Rattle.refusal.specs.declared.fault.Refusal.{Refusal}
 use Rattle.codec.specs.Encoding.{Encodes}
@@ -8,10 +8,10 @@ use Rattle.codec.specs.Reading.{read_tree, whole}
 use Rattle.codec.specs.Trees.{Tree}
 use Rattle.codec.proofs.Codes.{reads_encodings}
 use Rattle.schema.specs.Automata.{Automaton, accepts}
-use Rattle.schema.specs.Faults.{table_fault, size_wrong}
+use Rattle.schema.specs.Faults.{table_fault}
 use Rattle.schema.specs.Tables.{Tables, automaton}
 use Rattle.schema.proofs.Sizes.{sized, sound_size}
-use Rattle.checking.specs.Checking.{unless, verdict, checked, ChecksTrees}
+use Rattle.checking.specs.Checking.{unless, verdict, ChecksTrees}
 
 not_err : {e : Refusal} {b : Bool} → ◌≡◌ {A = Result Bool Refusal} (Err e) (Ok b) → ⊥
 not_err e = let z : ◌≡◌ {A = ℕ} 0 1 = cc in omega arith

@@ -1,7 +1,6 @@
 -- One symbol more at a node: the row that it leads to and the state of the child. Assumes nothing.
 use Rattle.std.specs.Prelude.{◌≡◌, ℕ, ◌-◌, Bool, false, List, Some, None, Option, slice_set}
 use Rattle.codec.specs.declared.item.Level.{Level}
-use Rattle.codec.specs.Piles.{topmost}
 use Rattle.schema.specs.Automata.{Automaton}
 use Rattle.checking.specs.declared.cursor.Answer.{Answer}
 use Rattle.checking.specs.declared.cursor.Cursor.{Cursor}

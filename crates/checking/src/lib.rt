@@ -1,4 +1,6 @@
 //! Checking: is this tree accepted by this schema?
+#![tactic(auto)]
+
 ghost use Rattle.std.specs.Prelude.{◌≡◌, length};
 ghost use Rattle.codec.specs.Encoding.{ReadsEncodings};
 ghost use Rattle.schema.specs.Bindings.{AcceptedIsBound};

@@ -1,18 +1,18 @@
 -- One step of a reader, case by case. Assumes nothing.
-use Rattle.std.proofs.Common.{◌≡◌, ℕ, zero, suc, ◌+◌, ◌-◌, ◌<◌, ◌≤◌, Bool, true, false, cond, ltb, leb, List, [], ◌∷◌, ◌++◌, length, take, drop, set, Some, None, Ok, Err, Option, Result, sym, refl, ap, ◌∙◌, subst, inl, inr, ⊎_elim, arith, length-drop, take-append-drop, Bor}
+use Rattle.std.proofs.Common.{◌≡◌, ℕ, zero, suc, ◌+◌, ◌-◌, ◌<◌, ◌≤◌, Bool, true, false, ltb, leb, List, [], ◌∷◌, ◌++◌, length, take, drop, set, Some, None, Ok, Err, Option, sym, refl, ap, ◌∙◌, inl, inr, arith, length-drop, take-append-drop, Bor}
 use Rattle.std.specs.List.{slice_get}
 use Rattle.std.proofs.lemmas.List.{length_push, length-set, get_or_push, length-take-le, take_more, take_more_set, drop-drop}
 use Rattle.std.proofs.lemmas.Option.{slice_get-get_or}
-use Rattle.std.proofs.lemmas.Bool.{cases_lt, leb-true, leb-false, lt-ltb, cond-true}
+use Rattle.std.proofs.lemmas.Bool.{leb-true, leb-false, lt-ltb, cond-true}
 use Rattle.refusal.specs.declared.fault.Fault.TheVariants as fault
 use Rattle.refusal.specs.declared.fault.Refusal.{Refusal}
 use Rattle.codec.specs.declared.item.Item.TheVariants.{Value, Symbol, End}
 use Rattle.codec.specs.declared.item.Level.{Level}
-use Rattle.codec.specs.Items.{Midway, read_two, Opens, Names, Closes, Over, NodeFault, SymbolFault, Walks}
-use Rattle.codec.specs.Numbers.{Got, got, stop, read_number, Reads}
+use Rattle.codec.specs.Items.{Midway, NodeFault, Walks}
+use Rattle.codec.specs.Numbers.{Got, got, read_number, Reads}
 use Rattle.codec.specs.Piles.{entries, topmost, Pushed, Popped, Replaced}
 use Rattle.codec.specs.Reading.{then}
-use Rattle.codec.proofs.Entries.{nth_take, nth_take_past, inside_some, get_d_some}
+use Rattle.codec.proofs.Entries.{nth_take, get_d_some}
 
 -- bytes from one place to the next, and those after
 pub part : (input : List ℕ) (p e : ℕ) → p ≤ e → drop p input ≡ take (e - p) (drop p input) ++ drop e input

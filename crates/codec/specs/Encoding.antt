@@ -1,7 +1,7 @@
 -- The bytes of a tree, and the law of reading: it accepts exactly the encodings of trees. Assumes nothing.
-use Rattle.std.specs.Prelude.{◌≡◌, ℕ, ◌^◌, ◌<◌, ◌≤◌, List, [], ◌++◌, length}
+use Rattle.std.specs.Prelude.{◌≡◌, ℕ, ◌^◌, ◌<◌, ◌≤◌, List, [], ◌++◌}
 use Rattle.std.specs.List.{AllByRecursion as All}
-use Rattle.codec.specs.Numbers.{Got, got, number_bytes}
+use Rattle.codec.specs.Numbers.{got, number_bytes}
 use Rattle.codec.specs.Reading.{read_tree}
 use Rattle.codec.specs.Trees.{Tree, node, Children, none, child, many, height}
 

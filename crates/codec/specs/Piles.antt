@@ -1,5 +1,5 @@
 -- Piles: the first `count` slots of a list are the entries, the last of them on top. Assumes nothing.
-use Rattle.std.specs.Prelude.{◌≡◌, ℕ, ◌+◌, ◌-◌, Bool, true, false, cond, List, length, take, Option, nat_lt, slice_set}
+use Rattle.std.specs.Prelude.{◌≡◌, ℕ, ◌+◌, ◌-◌, Bool, cond, List, length, take, Option, nat_lt, slice_set}
 use Rattle.std.specs.List.{slice_get}
 
 -- the entries, the bottom one first

@@ -1,5 +1,5 @@
 -- What it tells that nothing keeps two schemas from a step. Assumes nothing.
-use Rattle.std.proofs.Common.{◌≡◌, ℕ, ◌≤◌, Bool, true, false, cond, not, ◌&&◌, ◌||◌, eqb, ltb, [], ◌∷◌, Some, None, Option, sym, refl, ap, ◌∙◌}
+use Rattle.std.proofs.Common.{◌≡◌, ℕ, ◌≤◌, Bool, true, false, cond, not, eqb, [], ◌∷◌, Some, None, sym, refl, ap, ◌∙◌}
 use Rattle.std.proofs.lemmas.Bool.{and_parts, eqb-true, eq-eqb, ltb-false, not-false}
 use Rattle.refusal.specs.declared.fault.Fault.TheVariants.{Symbols}
 use Rattle.refusal.specs.declared.fault.Refusal.{Refusal}

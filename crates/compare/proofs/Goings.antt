@@ -1,11 +1,10 @@
 -- The area after an unbroken pair, and live symbols where every symbol is permitted. Assumes nothing.
-use Rattle.std.proofs.Common.{◌≡◌, ℕ, ◌+◌, ◌<◌, Bool, true, false, cond, eqb, List, length, Decides, sym, refl, ap, ◌∙◌, subst, arith}
+use Rattle.std.proofs.Common.{◌≡◌, ℕ, ◌<◌, Bool, cond, List, length, Decides, sym, ap, ◌∙◌, subst}
 use Rattle.std.proofs.lemmas.Bool.{eq-eqb, ne_eqb}
 use Rattle.domain.specs.Kinds.{bit}
 use Rattle.schema.specs.Automata.{Automaton}
 use Rattle.schema.specs.Live.{LiveMask, LiveSymbol}
 use Rattle.compare.specs.declared.pairs.Listed.{Listed}
-use Rattle.compare.specs.declared.phase.Phase.{Phase}
 use Rattle.compare.specs.declared.phase.Phase.TheVariants as phase
 use Rattle.compare.specs.declared.phase.Verdict.TheVariants as verdict
 use Rattle.compare.specs.Stepping.{going_on}

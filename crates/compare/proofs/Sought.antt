@@ -1,5 +1,5 @@
 -- The sequences that a search for a refused one seeks over the symbols into live states are those that break a pair in content. Assumes nothing.
-use Rattle.std.proofs.Common.{◌≡◌, ℕ, ◌<◌, Bool, true, false, not, List, is_some, Some, None, Decides, Option, sym, refl, ◌∙◌}
+use Rattle.std.proofs.Common.{◌≡◌, ℕ, ◌<◌, Bool, true, not, List, is_some, Some, None, Decides, Option, sym, refl, ◌∙◌}
 use Rattle.std.proofs.ByRecursion.{All-weaker}
 use Rattle.std.proofs.lemmas.Bool.{false≢true, not-true, not_from_false}
 use Rattle.domain.specs.Kinds.{bit}

@@ -1,15 +1,14 @@
 -- A turn changes none of the noted counts, and a step examines in a running area alone. Assumes nothing.
-use Rattle.std.proofs.Common.{◌≡◌, ℕ, suc, ◌+◌, sym, refl, ap, ◌∙◌, ⊎_elim, add-one, arith}
+use Rattle.std.proofs.Common.{◌≡◌, ℕ, refl, ap, ◌∙◌, ⊎_elim, arith}
 use Rattle.schema.specs.Automata.{Automaton}
 use Rattle.compare.specs.declared.compared.Compared.{Compared}
-use Rattle.compare.specs.declared.event.Decision.{Decision}
 use Rattle.compare.specs.declared.event.Decision.TheVariants as decision
 use Rattle.compare.specs.declared.event.Event.TheVariants.{Step}
 use Rattle.compare.specs.declared.phase.Phase.{Phase}
 use Rattle.compare.specs.declared.phase.Phase.TheVariants as phase
 use Rattle.compare.specs.Phases.{decided}
 use Rattle.compare.specs.Schemas.{Noted}
-use Rattle.compare.specs.Stepping.{Turn, Turns}
+use Rattle.compare.specs.Stepping.{Turn}
 use Rattle.compare.specs.Work.{Work}
 
 -- a step examines where the area runs, and only there

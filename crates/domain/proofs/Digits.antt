@@ -1,13 +1,13 @@
 -- The binary digits of a number: the lowest that is set, and those of `a & !b`. Assumes nothing.
-use Rattle.std.proofs.Common.{◌≡◌, ℕ, zero, suc, ◌+◌, ◌-◌, ◌*◌, ◌/◌, ◌%◌, ◌^◌, ◌<◌, ◌≤◌, min, max, Bool, true, false, cond, not, ◌&&◌, eqb, ltb, sym, refl, ap, ◌∙◌, subst, ⊎_elim, pow-suc, div-add-mod', div-one, one-add, arith}
+use Rattle.std.proofs.Common.{◌≡◌, ℕ, zero, suc, ◌+◌, ◌-◌, ◌/◌, ◌%◌, ◌^◌, ◌<◌, min, max, Bool, cond, eqb, ltb, sym, refl, ap, ◌∙◌, ⊎_elim, pow-suc, div-add-mod', div-one, one-add, arith}
 use native.Mathlib.Nat.{pow-zero}
 use lib.Bits.{bit_and, bit_or, and_shr, and_step, or_shr, or_step}
 use lib.Count.{count_trailing_zeros, under}
 use lib.Dec.{eqb-zero-suc, eqb-suc-zero, eqb-suc-suc}
 use Rattle.std.proofs.lemmas.Bool.{and_from, and_right, lt-ltb, eq-eqb, ne_eqb, cases_lt}
-use Rattle.std.proofs.lemmas.Nat.{shr-shr, shr_below, mod_below}
+use Rattle.std.proofs.lemmas.Nat.{shr-shr, mod_below}
 use Rattle.std.proofs.lemmas.Bool.Decides.{nat_tests}
-use Rattle.domain.specs.Kinds.{bit, in_bits}
+use Rattle.domain.specs.Kinds.{in_bits}
 use Rattle.domain.specs.Sets.{First, alone}
 
 -- the digit of n at a place

@@ -1,11 +1,11 @@
 -- Ranges tested one after the other against the rule, and that making a coverage has one answer. Assumes nothing.
-use Rattle.std.proofs.Common.{◌≡◌, ℕ, ◌+◌, ◌-◌, ◌<◌, ◌≤◌, List, ◌++◌, length, take, drop, replicate, Ok, Err, Result, sym, refl, ap, ◌∙◌, subst, inl, inr, ⊎_elim, arith, below_more}
+use Rattle.std.proofs.Common.{◌≡◌, ℕ, ◌+◌, ◌-◌, ◌<◌, ◌≤◌, List, ◌++◌, length, take, drop, replicate, Ok, Err, sym, refl, ap, ◌∙◌, ⊎_elim, arith, below_more}
 use Rattle.std.proofs.lemmas.List.{take_all, take-append-le, drop-replicate}
 use Rattle.std.proofs.lemmas.Bool.{cases_order}
 use Rattle.refusal.specs.declared.fault.Refusal.{Refusal}
 use Rattle.domain.specs.declared.coverage.Range.{Range}
 use Rattle.domain.specs.declared.coverage.Coverage.{Coverage}
-use Rattle.domain.specs.Making.{unused, at, Follows, Breaks, Accepts, Refuses, Makes, OneAnswer}
+use Rattle.domain.specs.Making.{unused, at, Follows, Breaks, Accepts, Refuses, OneAnswer}
 
 -- the first k ranges follow the rule, and the next may begin from `free` on
 pub record Sofar (rs : List Range) (k free : ℕ) : Type 0 where

@@ -1,5 +1,5 @@
 -- The three kinds of domain: which values each has. Assumes nothing.
-use Rattle.std.specs.Prelude.{◌≡◌, ℕ, ◌+◌, ◌-◌, ◌/◌, ◌%◌, ◌^◌, Bool, true, false, cond, ◌&&◌, ◌||◌, List, [], ◌∷◌, take, ◌==◌, nat_le, nat_lt}
+use Rattle.std.specs.Prelude.{ℕ, ◌+◌, ◌-◌, ◌/◌, ◌%◌, ◌^◌, Bool, false, cond, ◌&&◌, ◌||◌, List, [], ◌∷◌, take, ◌==◌, nat_le, nat_lt}
 use Rattle.domain.specs.declared.keywords.Keywords.{Keywords}
 use Rattle.domain.specs.declared.coverage.Range.{Range}
 use Rattle.domain.specs.declared.coverage.Coverage.{Coverage}

@@ -1,4 +1,6 @@
 //! The program: does the jobs that lie in the folder it is run in, one after the other, and prints what took place.
+#![tactic(auto)]
+
 use crate::domains::Domains;
 use crate::live::Live;
 use crate::trees::Trees;

@@ -1,4 +1,5 @@
 //! The text forms of the programs, words split at blanks: domains, schemas, bytes, sets of symbols, and sets of states as they are printed.
+#![tactic(auto)]
 
 pub mod bytes;
 pub mod filled;

@@ -1,10 +1,10 @@
 -- Every word has at most ten letters: one test that antt computes over the whole table. Assumes nothing.
-use Rattle.std.proofs.Common.{◌≡◌, ℕ, ◌<◌, ◌≤◌, Bool, true, ◌&&◌, leb, List, [], ◌∷◌, map, length, get_or, sym, refl, ap, ◌∙◌, subst, ⊎_elim, lit≤}
+use Rattle.std.proofs.Common.{ℕ, ◌≤◌, Bool, true, ◌&&◌, leb, List, [], ◌∷◌, length, sym, refl, subst, ⊎_elim, lit≤}
 use Rattle.std.specs.List.{AllByRecursion as All}
 use Rattle.std.proofs.ByRecursion.{All-get_or, Decides-by_and}
-use Rattle.std.proofs.lemmas.List.{get_or-map, get_or_past}
+use Rattle.std.proofs.lemmas.List.{get_or_past}
 use Rattle.std.proofs.lemmas.Bool.{leb-true, le-leb, cases_lt}
-use Rattle.refusal.specs.Words.{words, word_at, Short}
+use Rattle.refusal.specs.Words.{words, Short}
 
 -- no word of the list has more than ten letters
 abbrev all_short : List (List ℕ) → Bool

@@ -1,5 +1,5 @@
 -- A tree is accepted exactly when its nodes can be bound to states, and then in one way only. Assumes nothing.
-use Rattle.std.proofs.Common.{◌≡◌, ℕ, Bool, true, false, ◌&&◌, Some, None, Option, sym, refl, ap, ◌∙◌, subst, arith}
+use Rattle.std.proofs.Common.{◌≡◌, ℕ, Bool, true, Some, None, Option, sym, refl, ap, ◌∙◌, subst}
 use Rattle.std.proofs.lemmas.Bool.{and_parts, and_from, false≢true}
 use Rattle.codec.specs.Trees.{Tree, node, Children, none, child, word}
 use Rattle.schema.specs.Automata.{Automaton, passes, allowed, accepts, accepts_all}

@@ -1,10 +1,9 @@
 -- A state that demands a child and leads only to itself accepts no finite tree. Assumes nothing.
-use Rattle.std.proofs.Common.{◌≡◌, ℕ, zero, suc, ◌<◌, Bool, true, false, ◌&&◌, Some, None, Option, sym, refl, ap, ◌∙◌, subst, arith}
+use Rattle.std.proofs.Common.{◌≡◌, ℕ, true, false, Some, refl, subst, arith}
 use Rattle.std.proofs.lemmas.Bool.{and_parts, both_ways}
 use Rattle.codec.specs.Trees.{Tree, node, Children, none, child, word}
 use Rattle.schema.specs.Automata.{Automaton, passes, row_runs, allowed, accepts, accepts_all}
 use Rattle.schema.specs.Examples.{one_of_two, just_zero, LeadsBackDead}
-use Rattle.schema.specs.Live.{Live}
 use Rattle.schema.specs.Tables.{automaton}
 use Rattle.schema.proofs.Bound.{passed}
 use Rattle.schema.proofs.Sound.{sound}

@@ -1,9 +1,8 @@
 -- Numbers gathered along edges, and the rows that sequences lead to. Assumes nothing.
-use Rattle.std.proofs.Common.{◌≡◌, ℕ, ◌+◌, ◌^◌, ◌<◌, ◌≤◌, Bool, true, false, cond, not, ◌&&◌, ◌||◌, eqb, ltb, ◌⊎◌, List, [], ◌∷◌, ◌++◌, Some, None, Decides, Option, sym, refl, ap, ◌∙◌, subst, inl, inr, ⊎_elim, append-nil, arith}
+use Rattle.std.proofs.Common.{◌≡◌, ℕ, ◌+◌, ◌<◌, ◌≤◌, Bool, true, false, cond, ◌&&◌, ◌||◌, eqb, ltb, ◌⊎◌, List, [], ◌∷◌, ◌++◌, Some, None, Option, sym, refl, ap, ◌∙◌, subst, inl, inr, ⊎_elim, append-nil, arith}
 use Rattle.std.specs.List.{AllByRecursion as All}
 use Rattle.std.proofs.ByRecursion.{All-push}
-use Rattle.std.proofs.lemmas.Bool.{and_parts, and_from, and_right, both_ways, cases_Bool, cases_lt, eqb-true, eq-eqb, lt-ltb, ltb-true, not-true, not_from_false, or_cases, or_left, or_right}
-use Rattle.domain.proofs.Digits.{digit_power}
+use Rattle.std.proofs.lemmas.Bool.{and_parts, and_from, and_right, both_ways, cases_Bool, cases_lt, eqb-true, eq-eqb, lt-ltb, not_from_false, or_cases, or_left, or_right}
 use Rattle.domain.specs.Kinds.{bit, in_bits}
 use Rattle.domain.specs.Sets.{Empty, First, alone}
 use Rattle.schema.proofs.Bound.{passed}

@@ -1,13 +1,13 @@
 -- A symbol that a sequence holds leads from a row that was reached to one that goes on to an end. Assumes nothing.
-use Rattle.std.proofs.Common.{◌≡◌, ℕ, ◌<◌, Bool, true, false, ◌&&◌, List, [], ◌∷◌, ◌++◌, Some, None, Decides, Option, sym, refl, ap, ◌∙◌, subst, arith}
+use Rattle.std.proofs.Common.{◌≡◌, ℕ, ◌<◌, Bool, true, ◌&&◌, List, [], ◌∷◌, ◌++◌, Some, Decides, sym, refl, ap, ◌∙◌, subst}
 use Rattle.std.specs.List.{AllByRecursion as All}
 use Rattle.std.proofs.ByRecursion.{All-append, All-weaker}
 use Rattle.std.proofs.lemmas.Bool.{and_parts, and_from}
 use Rattle.domain.specs.Kinds.{bit}
-use Rattle.schema.specs.Automata.{Automaton, passes, present, row_runs, has_next, allowed, accepts}
+use Rattle.schema.specs.Automata.{Automaton, passes, present, row_runs, has_next}
 use Rattle.schema.specs.Below.{some_below}
 use Rattle.schema.specs.Live.{Live, LiveMask, LiveSequence, LiveSymbol}
-use Rattle.schema.specs.Rows.{Held, ReachedFrom, RunsOverFrom, LeadsOver}
+use Rattle.schema.specs.Rows.{Held, ReachedFrom, RunsOverFrom}
 use Rattle.schema.proofs.Bound.{passed}
 use Rattle.schema.proofs.Gathering.{runs_on, leads_inside}
 use Rattle.schema.proofs.Searches.{some_found, some_tells}

@@ -1,13 +1,12 @@
 -- What tables without a fault keep: states lead to states, and rows to rows of the same state. Assumes nothing.
-use Rattle.std.proofs.Common.{◌≡◌, ℕ, zero, suc, ◌+◌, ◌<◌, ◌≤◌, Bool, true, false, cond, not, ◌||◌, eqb, ltb, List, [], ◌∷◌, Some, None, Option, sym, refl, ap, ◌∙◌, subst, ⊎_elim, arith}
+use Rattle.std.proofs.Common.{◌≡◌, ℕ, zero, suc, ◌<◌, Bool, true, false, cond, ◌||◌, eqb, ltb, List, [], ◌∷◌, Some, None, Option, sym, refl, ◌∙◌, subst, ⊎_elim, arith}
 use Rattle.std.specs.Option.{option_map}
-use Rattle.std.proofs.lemmas.Bool.{both_ways, cases_Bool, cases_lt, cond-true, cond-false, eqb-false, eqb-true, eq-eqb, ltb-true, not-false, or_cases, or_parts}
-use Rattle.refusal.specs.declared.fault.Fault.TheVariants.{State, Row, Domain}
-use Rattle.refusal.specs.declared.fault.Refusal.{Refusal}
+use Rattle.std.proofs.lemmas.Bool.{both_ways, cases_Bool, cases_lt, cond-true, cond-false, ltb-true, not-false, or_cases, or_parts}
+use Rattle.refusal.specs.declared.fault.Fault.TheVariants.{State, Row}
 use Rattle.refusal.specs.Order.{first_of}
 use Rattle.schema.specs.Automata.{Automaton}
 use Rattle.schema.specs.Below.{some_below, lowest}
-use Rattle.schema.specs.Faults.{outside, stray, wrong_at, at_lowest, state_wrong, row_wrong, entries_wrong, line_wrong, lines_wrong, size_fault, table_fault, faulty}
+use Rattle.schema.specs.Faults.{outside, stray, at_lowest, state_wrong, row_wrong, line_wrong, size_fault, faulty}
 use Rattle.schema.specs.Tables.{Tables, entry, automaton, transition_byte, row_count, row_byte}
 use Rattle.schema.proofs.Sizes.{Within, inside, sound_tables}
 

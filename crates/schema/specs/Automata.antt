@@ -1,5 +1,5 @@
 -- Schema automata, and the trees that they accept. Assumes nothing.
-use Rattle.std.specs.Prelude.{◌≡◌, ℕ, Bool, true, false, ◌&&◌, List, [], ◌∷◌, Some, None, Option}
+use Rattle.std.specs.Prelude.{ℕ, Bool, true, false, ◌&&◌, List, [], ◌∷◌, Some, None, Option}
 use Rattle.codec.specs.Trees.{Tree, node, Children, none, child, word}
 
 -- next q a: the state under symbol a; step q r a: the row after row r; ends q r: a sequence may end at row r; has q v: the domain of q

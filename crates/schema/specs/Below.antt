@@ -1,5 +1,5 @@
 -- Numbers below a bound: which pass a test, and sums over them. Assumes nothing.
-use Rattle.std.specs.Prelude.{ℕ, zero, suc, ◌+◌, Bool, true, false, cond, ◌||◌, [], ◌∷◌, Some, None, Option}
+use Rattle.std.specs.Prelude.{ℕ, zero, suc, ◌+◌, Bool, false, cond, ◌||◌, [], ◌∷◌, Some, None, Option}
 use Rattle.refusal.specs.Order.{first_of}
 
 -- some number below n passes

@@ -1,5 +1,5 @@
 -- The tables that a schema lends, and the automaton that they lay out. Assumes nothing.
-use Rattle.std.specs.Prelude.{ℕ, ◌+◌, ◌*◌, ◌^◌, Bool, true, false, cond, ◌&&◌, List, map, length, get_or, Some, None, Option, ◌==◌, nat_lt, slice_index, slice_index_or}
+use Rattle.std.specs.Prelude.{ℕ, ◌+◌, ◌*◌, ◌^◌, Bool, false, cond, ◌&&◌, List, map, length, get_or, Some, None, Option, ◌==◌, nat_lt, slice_index, slice_index_or}
 use Rattle.schema.specs.declared.tables.Schema.{Schema}
 use Rattle.schema.specs.Automata.{Automaton}
 

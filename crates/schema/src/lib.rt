@@ -1,4 +1,5 @@
 //! Schemas: the tables that a caller lends, their test, and the automaton that they lay out.
+#![tactic(auto)]
 
 pub mod faults;
 pub mod live;

@@ -1,5 +1,5 @@
 -- States gathered along live symbols are those that are kept. Assumes nothing.
-use Rattle.std.proofs.Common.{◌≡◌, ℕ, Bool, true, List, [], ◌∷◌, Some, Decides, sym, refl, ap, ◌∙◌, subst, inl, inr, ⊎_elim}
+use Rattle.std.proofs.Common.{◌≡◌, ℕ, Bool, true, List, [], ◌∷◌, Some, Decides, sym, ap, ◌∙◌, subst, inl, inr, ⊎_elim}
 use Rattle.domain.specs.Kinds.{bit}
 use Rattle.schema.specs.Automata.{Automaton}
 use Rattle.schema.specs.Live.{LiveSymbol, LivePath}

@@ -1,4 +1,6 @@
 //! Trimming: the schema over permitted symbols, without the states that no accepted tree needs.
+#![tactic(auto)]
+
 ghost use Rattle.std.specs.Prelude.{◌≡◌, MatchResult};
 ghost use Rattle.domain.specs.Kinds.{bit};
 ghost use Rattle.schema.specs.Tables.{tables, sets};

@@ -1,5 +1,5 @@
 -- The fault of the tables, or else the verdict of the walk; and the laws that stand above. Assumes nothing.
-use Rattle.std.proofs.Common.{◌≡◌, ℕ, Bool, length, None, Err, Result, sym, ap, ◌∙◌}
+use Rattle.std.proofs.Common.{Bool, length, Err, Result, sym, ap, ◌∙◌}
 use Rattle.std.proofs.lemmas.Result.{err_from_is_err_and}
 use Rattle.refusal.specs.declared.fault.Refusal.{Refusal}
 use Rattle.codec.specs.Reading.{read_tree, whole}

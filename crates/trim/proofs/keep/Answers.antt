@@ -1,8 +1,8 @@
 -- What is kept, or that nothing is left. Assumes nothing.
-use Rattle.std.proofs.Common.{◌≡◌, ◌<◌, [], sym, refl, arith}
+use Rattle.std.proofs.Common.{◌<◌, [], sym, refl, arith}
 use Rattle.std.proofs.lemmas.Bool.{both_ways}
 use Rattle.domain.specs.Kinds.{bit}
-use Rattle.schema.specs.Tables.{tables, sets}
+use Rattle.schema.specs.Tables.{tables}
 use Rattle.schema.proofs.Sizes.{sized, sound_tables}
 use Rattle.trim.proofs.keep.Goals as goal
 

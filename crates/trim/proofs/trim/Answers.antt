@@ -1,5 +1,5 @@
 -- The refusals in their order, or the trimmed tables; and the law. Assumes nothing.
-use Rattle.std.proofs.Common.{◌≡◌, ℕ, sym, refl, ap, ◌∙◌, subst, inl, inr}
+use Rattle.std.proofs.Common.{ℕ, sym, refl, ◌∙◌, subst, inl, inr}
 use Rattle.std.proofs.lemmas.Result.{err_from_is_err_and}
 use Rattle.refusal.specs.declared.fault.Fault.TheVariants.{Room}
 use Rattle.refusal.specs.declared.fault.Refusal.{Refusal}

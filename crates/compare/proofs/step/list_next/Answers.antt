@@ -1,10 +1,9 @@
 -- Where both next states are there, their pair. Assumes nothing.
-use Rattle.std.proofs.Common.{◌≡◌, ℕ, ◌<◌, sym, refl, ◌∙◌, subst}
+use Rattle.std.proofs.Common.{ℕ, ◌<◌, sym, refl, ◌∙◌, subst}
 use Rattle.domain.specs.Kinds.{bit}
 use Rattle.schema.specs.Tables.{tables, sets}
 use Rattle.schema.proofs.Sound.{sound}
 use Rattle.compare.specs.Listing.{entries_of}
-use Rattle.compare.specs.Schemas.{first_automaton, second_automaton}
 use Rattle.compare.proofs.Nexts.{first_missing, second_missing, both_there}
 use Rattle.compare.proofs.step.list_next.Goals as goal
 

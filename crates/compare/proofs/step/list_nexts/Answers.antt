@@ -1,7 +1,6 @@
 -- Symbol by symbol. Assumes nothing.
-use Rattle.std.proofs.Common.{◌≡◌, ℕ, ◌<◌, List, length, sym, ap, ◌∙◌, add-one, arith}
+use Rattle.std.proofs.Common.{ℕ, ◌<◌, length, sym, ap, ◌∙◌, add-one, arith}
 use Rattle.domain.specs.Kinds.{bit}
-use Rattle.compare.specs.declared.pairs.Listed.{Listed}
 use Rattle.compare.specs.Listing.{entries_of}
 use Rattle.compare.specs.Schemas.{first_automaton, second_automaton}
 use Rattle.compare.specs.Stepping.{with_next, with_nexts}

@@ -1,5 +1,5 @@
 -- The tests in their order, and then the pairs. Assumes nothing.
-use Rattle.std.proofs.Common.{◌≡◌, ℕ, List, length, Some, None, sym, refl, ◌∙◌, subst}
+use Rattle.std.proofs.Common.{◌≡◌, ℕ, length, Some, None, sym, refl, ◌∙◌, subst}
 use Rattle.schema.specs.declared.tables.Schema.{Schema}
 use Rattle.schema.specs.Tables.{tables, sets, automaton}
 use Rattle.compare.specs.Stepping.{step_kept_from, step_refusal, StepsOn}

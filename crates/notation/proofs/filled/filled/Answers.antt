@@ -1,5 +1,5 @@
 -- One item more leaves the list the item so many times over. Assumes nothing.
-use Rattle.std.proofs.Common.{[], ◌∷◌, ◌++◌, replicate, is_ok, sym, ap, ◌∙◌, arith, rules}
+use Rattle.std.proofs.Common.{[], ◌∷◌, ◌++◌, replicate, is_ok, sym, ap, ◌∙◌, rules}
 use Rattle.std.proofs.ResultArms.{chosen}
 use Rattle.std.proofs.lemmas.List.{replicate_more}
 use Rattle.notation.proofs.filled.filled.Goals as goal

@@ -1,8 +1,7 @@
 -- The mask of the tested schema, or the fault of its tables; and the example. Assumes nothing.
-use Rattle.std.proofs.Common.{◌≡◌, Some, sym, ◌∙◌, subst, MatchResult}
+use Rattle.std.proofs.Common.{subst}
 use Rattle.std.proofs.lemmas.Result.{err_from_is_err_and}
 use Rattle.schema.specs.declared.tables.Schema.{Schema}
-use Rattle.schema.specs.Faults.{table_fault}
 use Rattle.schema.specs.Live.{LiveMask, RankMask}
 use Rattle.schema.specs.Tables.{tables, sets, automaton}
 use Rattle.schema.proofs.Dead.{leads_back_dead}

@@ -1,5 +1,5 @@
 -- The ones among the lowest digits. Assumes nothing.
-use Rattle.std.proofs.Common.{◌≡◌, ℕ, ◌-◌, ◌%◌, ◌^◌, ap, ◌∙◌}
+use Rattle.std.proofs.Common.{ℕ, ◌-◌, ap, ◌∙◌}
 use lib.Bits.{bit_and, and_mask}
 use lib.Count.{ones}
 use Rattle.std.proofs.lemmas.Nat.{one_shl}

@@ -1,5 +1,5 @@
 -- Each turn leaves the search under way; a goal, or the end of the pile, is the answer. Assumes nothing.
-use Rattle.std.proofs.Common.{◌≡◌, ℕ, ◌+◌, ◌<◌, ◌≤◌, length, sym, refl, ap, ◌∙◌, subst, arith, w64, Fits}
+use Rattle.std.proofs.Common.{◌≡◌, ℕ, ◌+◌, ◌<◌, ◌≤◌, length, sym, refl, ◌∙◌, subst, arith, w64, Fits}
 use Rattle.codec.specs.Piles.{entries}
 use Rattle.domain.specs.Kinds.{bit}
 use Rattle.schema.specs.Tables.{tables, sets, automaton, row_count}

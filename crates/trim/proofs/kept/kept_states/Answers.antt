@@ -1,7 +1,7 @@
 -- States are done until none is left. Assumes nothing.
-use Rattle.std.proofs.Common.{◌≡◌, ℕ, ◌<◌, List, [], ◌∷◌, ◌++◌, Some, refl, arith}
+use Rattle.std.proofs.Common.{ℕ, List, [], ◌∷◌, ◌++◌, refl, arith}
 use Rattle.domain.specs.Kinds.{bit}
-use Rattle.schema.specs.Live.{LiveMask, LivePath}
+use Rattle.schema.specs.Live.{LivePath}
 use Rattle.schema.specs.Permitted.{permit}
 use Rattle.schema.specs.Tables.{tables, sets, automaton}
 use Rattle.schema.proofs.Gathering.{chosen_some, partly_start, partly_here, partly_more, partly_done}

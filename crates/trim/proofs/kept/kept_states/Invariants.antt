@@ -1,5 +1,5 @@
 -- The states done lead to states that were reached. Assumes nothing.
-use Rattle.std.proofs.Common.{◌≡◌, ℕ, ◌-◌, ◌^◌, true, List}
+use Rattle.std.proofs.Common.{ℕ, ◌-◌, ◌^◌, List}
 use Rattle.domain.specs.Kinds.{bit}
 use Rattle.schema.specs.Live.{LiveMask, LivePath}
 use Rattle.schema.specs.Permitted.{permit}

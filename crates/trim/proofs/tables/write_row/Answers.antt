@@ -1,5 +1,5 @@
 -- The end mark, and then symbol by symbol. Assumes nothing.
-use Rattle.std.proofs.Common.{◌≡◌, ℕ, ◌+◌, List, [], ◌∷◌, length, set, sym, ap, ◌∙◌, arith}
+use Rattle.std.proofs.Common.{◌≡◌, ℕ, ◌+◌, List, [], ◌∷◌, set, sym, ap, ◌∙◌, arith}
 use Rattle.std.proofs.lemmas.List.{length-set}
 use Rattle.codec.specs.Numbers.{overwritten}
 use Rattle.codec.proofs.Writing.{over_join, over_none}

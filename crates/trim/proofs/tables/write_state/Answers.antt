@@ -1,5 +1,5 @@
 -- Byte by byte. Assumes nothing.
-use Rattle.std.proofs.Common.{◌≡◌, ℕ, ◌/◌, ◌%◌, [], ◌∷◌, ap, ◌∙◌}
+use Rattle.std.proofs.Common.{ℕ, ◌/◌, ◌%◌, [], ◌∷◌, ap, ◌∙◌}
 use Rattle.codec.specs.Numbers.{overwritten}
 use Rattle.schema.specs.Tables.{tables, domain_number}
 use Rattle.trim.proofs.Lines.{bytes_four}

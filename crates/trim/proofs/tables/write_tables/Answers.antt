@@ -1,5 +1,5 @@
 -- State by state. Assumes nothing.
-use Rattle.std.proofs.Common.{◌≡◌, ℕ, ◌+◌, ◌*◌, sym, ap, ◌∙◌, arith}
+use Rattle.std.proofs.Common.{ℕ, ◌+◌, ◌*◌, sym, ap, ◌∙◌, arith}
 use Rattle.codec.specs.Numbers.{overwritten}
 use Rattle.domain.specs.Kinds.{bit}
 use Rattle.schema.specs.Tables.{tables}

@@ -1,5 +1,5 @@
 -- The next pair, broken or not. Assumes nothing.
-use Rattle.std.proofs.Common.{◌≡◌, ℕ, ◌+◌, ◌<◌, sym, refl, ap, ◌∙◌, subst, inl, inr, arith}
+use Rattle.std.proofs.Common.{ℕ, ◌+◌, ◌<◌, sym, refl, ap, ◌∙◌, subst, inl, inr, arith}
 use Rattle.codec.proofs.Entries.{inside_some}
 use Rattle.compare.specs.declared.area.Area.{Area}
 use Rattle.compare.specs.Listing.{entries_of}

@@ -1,5 +1,5 @@
 -- Turn by turn, while the area runs. Assumes nothing.
-use Rattle.std.proofs.Common.{◌≡◌, ℕ, ◌≤◌, length, sym, refl, ◌∙◌, subst, add-one, arith}
+use Rattle.std.proofs.Common.{ℕ, sym, refl, ◌∙◌, subst, add-one, arith}
 use Rattle.compare.specs.Schemas.{first_automaton, second_automaton}
 use Rattle.compare.specs.Stepping.{Turns}
 use Rattle.compare.specs.Work.{said}

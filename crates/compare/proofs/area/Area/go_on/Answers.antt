@@ -1,11 +1,10 @@
 -- The live symbols, what they list, and whether a pair is left. Assumes nothing.
-use Rattle.std.proofs.Common.{◌≡◌, ℕ, ◌+◌, List, length, sym, ap, ◌∙◌, arith}
+use Rattle.std.proofs.Common.{ℕ, ◌+◌, length, sym, ap, ◌∙◌, arith}
 use Rattle.domain.specs.Kinds.{bit}
 use Rattle.schema.specs.Permitted.{permit}
 use Rattle.schema.specs.Tables.{tables, sets}
 use Rattle.schema.proofs.Permits.{permit_all}
 use Rattle.schema.proofs.Sizes.{sized}
-use Rattle.compare.specs.declared.pairs.Listed.{Listed}
 use Rattle.compare.specs.Schemas.{first_automaton, second_automaton}
 use Rattle.compare.specs.Stepping.{with_nexts}
 use Rattle.compare.specs.Work.{said}

@@ -1,5 +1,5 @@
 -- The claim's refusal, where the symbols agree. Assumes nothing.
-use Rattle.std.proofs.Common.{◌≡◌, sym, ◌∙◌}
+use Rattle.std.proofs.Common.{sym, ◌∙◌}
 use Rattle.schema.specs.Tables.{tables}
 use Rattle.compare.specs.Work.{said}
 use Rattle.compare.proofs.Allowing.{by_claim}

@@ -1,10 +1,7 @@
 -- The search finds a sequence over the symbols into live states that the second state refuses, if there is one. Assumes nothing.
-use Rattle.std.proofs.Common.{◌≡◌, ℕ, Bool, length, Decides, sym, ap, subst, arith}
+use Rattle.std.proofs.Common.{Bool, length, Decides, sym, ap, subst, arith}
 use Rattle.domain.specs.Kinds.{bit}
-use Rattle.schema.specs.Automata.{Automaton, passes}
 use Rattle.schema.specs.Tables.{tables, sets, automaton}
-use Rattle.schema.proofs.Permits.{permit_all}
-use Rattle.schema.proofs.Sizes.{sized}
 use Rattle.schema.proofs.Sound.{sound}
 use Rattle.search.specs.Watching.{refusing}
 use Rattle.compare.specs.declared.phase.Kind.TheVariants.{Content}

@@ -1,5 +1,5 @@
 -- A count past the eight ranges takes them all, as the least of the two does. Assumes nothing.
-use Rattle.std.proofs.Common.{◌≡◌, ℕ, ◌-◌, List, length, take, ap, ◌∙◌, arith, rules}
+use Rattle.std.proofs.Common.{◌≡◌, ℕ, List, length, take, ap, ◌∙◌, arith, rules}
 use Rattle.domain.specs.declared.coverage.Range.{Range}
 use Rattle.domain.proofs.Ranges.{take_min}
 use Rattle.domain.proofs.coverage.Coverage.used.Goals as goal

@@ -1,5 +1,5 @@
 -- The smallest value of all ranges together. Assumes nothing.
-use Rattle.std.proofs.Common.{List, sym, refl, ap, ◌∙◌, subst}
+use Rattle.std.proofs.Common.{List, sym, refl, ◌∙◌, subst}
 use Rattle.std.proofs.lemmas.List.{take_all}
 use Rattle.domain.specs.declared.coverage.Range.{Range}
 use Rattle.domain.specs.Kinds.{some, in_range}

@@ -1,5 +1,5 @@
 -- Each symbol's entry is tried. Assumes nothing.
-use Rattle.std.proofs.Common.{◌≡◌, ℕ, Bool, sym, ap, ◌∙◌}
+use Rattle.std.proofs.Common.{◌≡◌, ℕ, Bool, sym, ◌∙◌}
 use Rattle.schema.specs.Faults.{stray}
 use Rattle.schema.specs.Tables.{tables, row_count, row_byte}
 use Rattle.schema.proofs.Searches.{none_more, some_found}

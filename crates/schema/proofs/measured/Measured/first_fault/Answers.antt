@@ -1,5 +1,5 @@
 -- Each state is tried. Assumes nothing.
-use Rattle.std.proofs.Common.{sym, ap, ◌∙◌}
+use Rattle.std.proofs.Common.{sym, ap}
 use Rattle.std.specs.Option.{option_map}
 use Rattle.schema.specs.Faults.{wrong_at}
 use Rattle.schema.specs.Tables.{tables}

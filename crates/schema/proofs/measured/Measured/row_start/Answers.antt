@@ -1,5 +1,5 @@
 -- A first row of 16 bits, a row of 8 and at most 33 bytes a row stay small. Assumes nothing.
-use Rattle.std.proofs.Common.{ℕ, ◌+◌, ◌*◌, ◌≤◌, ap, ◌∙◌, arith}
+use Rattle.std.proofs.Common.{ℕ, ◌+◌, ◌*◌, ◌≤◌, ap, arith}
 use Rattle.std.proofs.lemmas.Nat.{mul-le}
 use Rattle.schema.specs.Tables.{tables}
 use Rattle.schema.proofs.Sizes.{sized}

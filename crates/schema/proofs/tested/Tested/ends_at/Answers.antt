@@ -1,5 +1,5 @@
 -- Reached, and allowed to end. Assumes nothing.
-use Rattle.std.proofs.Common.{Bool, ◌&&◌, sym, ap, ◌∙◌}
+use Rattle.std.proofs.Common.{Bool, ◌&&◌, ap, ◌∙◌}
 use Rattle.schema.specs.Tables.{tables, sets, automaton}
 use Rattle.schema.proofs.tested.Tested.ends_at.Goals as goal
 

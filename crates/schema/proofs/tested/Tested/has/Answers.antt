@@ -1,5 +1,5 @@
 -- The domain with the state's number answers. Assumes nothing.
-use Rattle.std.proofs.Common.{◌≡◌, ℕ, Bool, false, ◌&&◌, ltb, get_or, ap, ◌∙◌}
+use Rattle.std.proofs.Common.{ℕ, false, ◌&&◌, ltb, get_or, ap, ◌∙◌}
 use Rattle.schema.specs.Tables.{sets}
 use Rattle.schema.proofs.Domains.{has_listed, has_unlisted}
 use Rattle.schema.proofs.tested.Tested.has.Goals as goal

@@ -1,5 +1,5 @@
 -- Each row is asked whether it was reached and may end. Assumes nothing.
-use Rattle.std.proofs.Common.{◌≡◌, ℕ, ◌<◌, Bool, true, false, ◌&&◌, sym, refl, ◌∙◌, subst, arith, below_more}
+use Rattle.std.proofs.Common.{◌≡◌, Bool, true, false, ◌&&◌, sym, refl, arith, below_more}
 use Rattle.std.proofs.lemmas.Bool.{and_parts, both_ways}
 use Rattle.domain.specs.Kinds.{bit}
 use Rattle.schema.specs.Tables.{tables, sets, automaton, row_count}

@@ -1,5 +1,5 @@
 -- The next state under a permitted symbol, where there is one, is in the set. Assumes nothing.
-use Rattle.std.proofs.Common.{◌≡◌, cond, None, sym, ap, ◌∙◌}
+use Rattle.std.proofs.Common.{None, sym, ap, ◌∙◌}
 use Rattle.std.proofs.lemmas.Bool.{cond-true}
 use Rattle.domain.specs.Kinds.{bit}
 use Rattle.schema.specs.Automata.{passes}

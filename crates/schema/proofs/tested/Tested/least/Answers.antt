@@ -1,5 +1,5 @@
 -- The least value of the domain with the state's number. Assumes nothing.
-use Rattle.std.proofs.Common.{◌≡◌, ℕ, Bool, false, ◌&&◌, ltb, get_or, sym, ap, ◌∙◌}
+use Rattle.std.proofs.Common.{ℕ, false, ◌&&◌, ltb, get_or, sym, ap, ◌∙◌}
 use Rattle.domain.proofs.Same.{smallest_of_same}
 use Rattle.schema.specs.Tables.{sets}
 use Rattle.schema.proofs.Domains.{has_listed, has_unlisted}

@@ -1,5 +1,5 @@
 -- Each state is tried. Assumes nothing.
-use Rattle.std.proofs.Common.{ℕ, ◌+◌, ◌<◌, Decides, sym, ◌∙◌, subst, arith}
+use Rattle.std.proofs.Common.{ℕ, ◌+◌, ◌<◌, Decides, sym, subst, arith}
 use Rattle.domain.specs.Kinds.{bit}
 use Rattle.schema.specs.Live.{New}
 use Rattle.schema.specs.Permitted.{permit}

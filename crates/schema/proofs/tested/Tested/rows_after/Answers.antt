@@ -1,5 +1,5 @@
 -- Each symbol of the set is tried. Assumes nothing.
-use Rattle.std.proofs.Common.{◌≡◌, ℕ, ◌+◌, ◌<◌, sym, ◌∙◌, subst, arith}
+use Rattle.std.proofs.Common.{◌+◌, sym, ◌∙◌, subst, arith}
 use Rattle.domain.specs.Kinds.{bit}
 use Rattle.schema.specs.Rows.{AfterEdge, RowEdge}
 use Rattle.schema.specs.Tables.{tables, sets, automaton}

@@ -1,5 +1,5 @@
 -- Each row of the state is tried. Assumes nothing.
-use Rattle.std.proofs.Common.{ℕ, ◌+◌, ◌<◌, ◌≤◌, Decides, sym, ◌∙◌, subst, arith}
+use Rattle.std.proofs.Common.{ℕ, ◌+◌, ◌<◌, ◌≤◌, Decides, sym, subst, arith}
 use Rattle.domain.specs.Kinds.{bit}
 use Rattle.schema.specs.Rows.{RunsOverFrom}
 use Rattle.schema.specs.Tables.{tables, sets, automaton, row_count}

@@ -1,5 +1,5 @@
 -- The symbols so far that lead into the set. Assumes nothing.
-use Rattle.std.proofs.Common.{◌≡◌, ℕ, Bool, ◌&&◌, ltb}
+use Rattle.std.proofs.Common.{◌≡◌, ℕ, ◌&&◌, ltb}
 use Rattle.domain.specs.Kinds.{bit}
 use Rattle.schema.specs.Automata.{passes}
 use Rattle.schema.specs.Permitted.{permit}
