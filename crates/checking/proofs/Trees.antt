@@ -1,6 +1,6 @@
 -- The answer is that of a tree exactly where the bytes are its encoding. Assumes nothing.
 use Rattle.std.proofs.Common.{◌≡◌, ℕ, ◌^◌, ◌<◌, ◌≤◌, Bool, List, [], ◌∷◌, length, Some, None, Ok, Err, Option, Result, refl, ap, ◌∙◌, arith}
-use Rattle.std.specs.List.{AllByRecursion as All}
+use Rattle.std.specs.List.{AllByRecursion}
 use Rattle.refusal.specs.declared.fault.Refusal.{Refusal}
 use Rattle.codec.specs.Encoding.{Encodes}
 use Rattle.codec.specs.Numbers.{Got, got, stop}
@@ -26,7 +26,7 @@ module _ (A : Automaton) (end s : ℕ) where
   read (got t (x ∷ xs)) b h = absurd (not_err h)
   read (stop e) b h = absurd (not_err h)
 
-answered : (T : Tables) (domains : List (ℕ → Bool)) (bytes : List ℕ) (levels : ℕ) (b : Bool) (fault : Option Refusal) → All (λ x. x < 256) bytes → unless fault (verdict (automaton T domains) (whole (length bytes) T.symbols (read_tree (length bytes) T.symbols levels bytes))) ≡ Ok b → (t : Tree) × Encodes T.symbols levels t bytes [] × (accepts (automaton T domains) 0 t ≡ b)
+answered : (T : Tables) (domains : List (ℕ → Bool)) (bytes : List ℕ) (levels : ℕ) (b : Bool) (fault : Option Refusal) → AllByRecursion (λ x. x < 256) bytes → unless fault (verdict (automaton T domains) (whole (length bytes) T.symbols (read_tree (length bytes) T.symbols levels bytes))) ≡ Ok b → (t : Tree) × Encodes T.symbols levels t bytes [] × (accepts (automaton T domains) 0 t ≡ b)
 answered T domains bytes levels b (Some e) small h = absurd (not_err h)
 answered T domains bytes levels b None small h =
     let r = read (automaton T domains) (length bytes) T.symbols (read_tree (length bytes) T.symbols levels bytes) b h in

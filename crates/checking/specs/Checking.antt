@@ -1,6 +1,6 @@
 -- What checking a tree answers. Assumes nothing.
 use Rattle.std.specs.Prelude.{◌≡◌, ℕ, ◌<◌, Bool, List, [], length, Some, None, Ok, Err, Option, Result}
-use Rattle.std.specs.List.{AllByRecursion as All}
+use Rattle.std.specs.List.{AllByRecursion}
 use Rattle.refusal.specs.declared.fault.Refusal.{Refusal}
 use Rattle.codec.specs.Encoding.{Encodes}
 use Rattle.codec.specs.Numbers.{Got, got, stop}
@@ -28,5 +28,5 @@ checked T domains bytes levels =
 -- over sound tables, the answer is that of a tree exactly where the bytes are its encoding, over the schema's symbols and with a level
 -- for each of its levels
 pub record ChecksTrees : Type 0 where
-  pub answered : (T : Tables) (domains : List (ℕ → Bool)) (bytes : List ℕ) (levels : ℕ) (b : Bool) → All (λ x. x < 256) bytes → checked T domains bytes levels ≡ Ok b → (t : Tree) × Encodes T.symbols levels t bytes [] × (accepts (automaton T domains) 0 t ≡ b)
+  pub answered : (T : Tables) (domains : List (ℕ → Bool)) (bytes : List ℕ) (levels : ℕ) (b : Bool) → AllByRecursion (λ x. x < 256) bytes → checked T domains bytes levels ≡ Ok b → (t : Tree) × Encodes T.symbols levels t bytes [] × (accepts (automaton T domains) 0 t ≡ b)
   pub told : (T : Tables) (domains : List (ℕ → Bool)) (bytes : List ℕ) (levels : ℕ) (t : Tree) → table_fault T ≡ None → Encodes T.symbols levels t bytes [] → checked T domains bytes levels ≡ Ok (accepts (automaton T domains) 0 t)

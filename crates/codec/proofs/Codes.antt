@@ -1,7 +1,7 @@
 -- Reading gives a number, and a tree, exactly where the bytes begin with its encoding. Assumes nothing.
 use Rattle.std.proofs.Common.{◌≡◌, ℕ, zero, suc, ◌+◌, ◌-◌, ◌*◌, ◌/◌, ◌%◌, ◌^◌, ◌<◌, ◌≤◌, Bool, true, false, cond, ◌&&◌, ◌||◌, eqb, ltb, ◌⊎◌, List, [], ◌∷◌, ◌++◌, length, sym, refl, ap, ◌∙◌, subst, inl, inr, ⊎_elim, append_assoc, arith}
 use native.Mathlib.Nat.{div-add-mod}
-use Rattle.std.specs.List.{AllByRecursion as All}
+use Rattle.std.specs.List.{AllByRecursion}
 use Rattle.std.proofs.lemmas.Nat.{pow-add, pow_below, shr_below}
 use Rattle.std.proofs.lemmas.Bool.{cases_lt, cases_Bool, cond-true, cond-false, lt-ltb, le-ltb, ltb-true, eqb-false, ltb-false, ne_eqb, or_parts}
 use Rattle.std.proofs.lemmas.Bool.Decides.{nat_tests}
@@ -23,7 +23,7 @@ same_rest : {X : Type 0} {x y : X} {r s : List ℕ} → ◌≡◌ {A = Got X} (g
 same_rest e = cc
 
 -- the bytes after some bytes are bytes too
-all_after : (xs ys : List ℕ) → All (λ b. b < 256) (xs ++ ys) → All (λ b. b < 256) ys
+all_after : (xs ys : List ℕ) → AllByRecursion (λ b. b < 256) (xs ++ ys) → AllByRecursion (λ b. b < 256) ys
 all_after [] ys all = all
 all_after (x ∷ xs) ys all = all_after xs ys all.1
 
@@ -88,7 +88,7 @@ module _ (at end : ℕ) where
   above_only low (got high r) n rest h = (high, ap (λ (l : List ℕ). got high l) (same_rest h), sym (same_value h))
   above_only low (stop e) n rest h = absurd (not_stop h)
 
-  groups_only : (k : ℕ) (some : Bool) (n : ℕ) (bs rest : List ℕ) → (k ≡ 0 → some ≡ true) → All (λ b. b < 256) bs → read_groups at end k some bs ≡ got n rest → Spelled k some n bs rest
+  groups_only : (k : ℕ) (some : Bool) (n : ℕ) (bs rest : List ℕ) → (k ≡ 0 → some ≡ true) → AllByRecursion (λ b. b < 256) bs → read_groups at end k some bs ≡ got n rest → Spelled k some n bs rest
   groups_only zero some n [] rest later bytes h = absurd (not_stop h)
   groups_only (suc k) some n [] rest later bytes h = absurd (not_stop h)
   groups_only zero some n (b ∷ bs) rest later bytes h =
@@ -122,7 +122,7 @@ module _ (at end : ℕ) where
       })
       (cases_lt b 128)
 
-  pub number_only : (n : ℕ) (bs rest : List ℕ) → All (λ b. b < 256) bs → read_groups at end 4 false bs ≡ got n rest → (bs ≡ number_bytes n ++ rest) × (n < 2 ^ 32)
+  pub number_only : (n : ℕ) (bs rest : List ℕ) → AllByRecursion (λ b. b < 256) bs → read_groups at end 4 false bs ≡ got n rest → (bs ≡ number_bytes n ++ rest) × (n < 2 ^ 32)
   number_only n bs rest bytes h =
       let so = groups_only 4 false n bs rest (λ e. absurd (omega arith)) bytes h in
       (so.bytes, so.fits)
@@ -184,7 +184,7 @@ module _ (end s : ℕ) where
     fits : heights cs ≤ levels
     all : many cs ≡ n
 
-  symbol_only : (a : ℕ) (bs rest : List ℕ) → All (λ b. b < 256) bs → read_symbol end s bs ≡ got a rest → (bs ≡ number_bytes a ++ rest) × (a < s)
+  symbol_only : (a : ℕ) (bs rest : List ℕ) → AllByRecursion (λ b. b < 256) bs → read_symbol end s bs ≡ got a rest → (bs ≡ number_bytes a ++ rest) × (a < s)
   symbol_only a bs rest bytes h =
       let t = then_got (read_number end bs) (tested bs) a rest h in
       ⊎_elim
@@ -197,18 +197,18 @@ module _ (end s : ℕ) where
       (cases_Bool (ltb t.0 s))
 
   -- the children, where trees of that many levels are known to be read from their encodings
-  children_only : (levels : ℕ) → ((t : Tree) (bs rest : List ℕ) → All (λ b. b < 256) bs → read_tree end s levels bs ≡ got t rest → Encodes s levels t bs rest) → (n : ℕ) (cs : Children) (bs rest : List ℕ) → All (λ b. b < 256) bs → read_children end s (read_tree end s levels) n bs ≡ got cs rest → SpelledAll levels n cs bs rest
+  children_only : (levels : ℕ) → ((t : Tree) (bs rest : List ℕ) → AllByRecursion (λ b. b < 256) bs → read_tree end s levels bs ≡ got t rest → Encodes s levels t bs rest) → (n : ℕ) (cs : Children) (bs rest : List ℕ) → AllByRecursion (λ b. b < 256) bs → read_children end s (read_tree end s levels) n bs ≡ got cs rest → SpelledAll levels n cs bs rest
   children_only levels trees zero cs bs rest bytes h =
       subst (λ (c : Children). SpelledAll levels 0 c bs rest) (same_value h) (record { bytes = same_rest h; proper = tt; fits = omega arith; all = refl })
   children_only levels trees (suc n) cs bs rest bytes h =
       let first = then_got (read_symbol end s bs) (after_symbol levels n) cs rest h in
       let a = first.0 in
       let symbol = symbol_only a bs first.1 bytes first.2 in
-      let left = all_after (number_bytes a) first.1 (subst (All (λ b. b < 256)) symbol.0 bytes) in
+      let left = all_after (number_bytes a) first.1 (subst (AllByRecursion (λ b. b < 256)) symbol.0 bytes) in
       let second = then_got (read_tree end s levels first.1) (after_tree levels n a) cs rest first.3 in
       let t = second.0 in
       let tree = trees t first.1 second.1 left second.2 in
-      let left = all_after (tree_bytes t) second.1 (subst (All (λ b. b < 256)) tree.bytes left) in
+      let left = all_after (tree_bytes t) second.1 (subst (AllByRecursion (λ b. b < 256)) tree.bytes left) in
       let third = then_got (read_children end s (read_tree end s levels) n second.1) (λ cs rest. got (child a t cs) rest) cs rest second.3 in
       let others = children_only levels trees n third.0 second.1 third.1 left third.2 in
       let same = same_rest third.3 in
@@ -221,17 +221,17 @@ module _ (end s : ℕ) where
         all = ap suc others.all;
       })
 
-  tree_only : (levels : ℕ) (t : Tree) (bs rest : List ℕ) → All (λ b. b < 256) bs → read_tree end s levels bs ≡ got t rest → Encodes s levels t bs rest
+  tree_only : (levels : ℕ) (t : Tree) (bs rest : List ℕ) → AllByRecursion (λ b. b < 256) bs → read_tree end s levels bs ≡ got t rest → Encodes s levels t bs rest
   tree_only zero t bs rest bytes h = absurd (not_stop h)
   tree_only (suc levels) t bs rest bytes h =
       let first = then_got (read_number end bs) (after_value levels) t rest h in
       let v = first.0 in
       let value = number_only (end - length bs) end v bs first.1 bytes first.2 in
-      let left = all_after (number_bytes v) first.1 (subst (All (λ b. b < 256)) value.0 bytes) in
+      let left = all_after (number_bytes v) first.1 (subst (AllByRecursion (λ b. b < 256)) value.0 bytes) in
       let second = then_got (read_number end first.1) (after_count levels v) t rest first.3 in
       let n = second.0 in
       let count = number_only (end - length first.1) end n first.1 second.1 left second.2 in
-      let left = all_after (number_bytes n) second.1 (subst (All (λ b. b < 256)) count.0 left) in
+      let left = all_after (number_bytes n) second.1 (subst (AllByRecursion (λ b. b < 256)) count.0 left) in
       let third = then_got (read_children end s (read_tree end s levels) n second.1) (λ cs rest. got (node v cs) rest) t rest second.3 in
       let cs = third.0 in
       let others = children_only levels (tree_only levels) n cs second.1 third.1 left third.2 in

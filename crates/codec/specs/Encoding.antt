@@ -1,6 +1,6 @@
 -- The bytes of a tree, and the law of reading: it accepts exactly the encodings of trees. Assumes nothing.
 use Rattle.std.specs.Prelude.{◌≡◌, ℕ, ◌^◌, ◌<◌, ◌≤◌, List, [], ◌++◌}
-use Rattle.std.specs.List.{AllByRecursion as All}
+use Rattle.std.specs.List.{AllByRecursion}
 use Rattle.codec.specs.Numbers.{got, number_bytes}
 use Rattle.codec.specs.Reading.{read_tree}
 use Rattle.codec.specs.Trees.{Tree, node, Children, none, child, many, height}
@@ -32,5 +32,5 @@ pub record Encodes (s levels : ℕ) (t : Tree) (bs rest : List ℕ) : Type 0 whe
 -- reading gives a tree exactly where the bytes begin with its encoding, whatever the input's length is said to be
 pub record ReadsEncodings : Type 0 where
   pub back : (end s levels : ℕ) (t : Tree) (bs rest : List ℕ) → s ≤ 2 ^ 32 → Encodes s levels t bs rest → read_tree end s levels bs ≡ got t rest
-  pub only : (end s levels : ℕ) (t : Tree) (bs rest : List ℕ) → All (λ b. b < 256) bs → read_tree end s levels bs ≡ got t rest → Encodes s levels t bs rest
+  pub only : (end s levels : ℕ) (t : Tree) (bs rest : List ℕ) → AllByRecursion (λ b. b < 256) bs → read_tree end s levels bs ≡ got t rest → Encodes s levels t bs rest
   pub one : (t u : Tree) → Proper (2 ^ 32) t → Proper (2 ^ 32) u → tree_bytes t ≡ tree_bytes u → t ≡ u

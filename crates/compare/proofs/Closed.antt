@@ -1,6 +1,6 @@
 -- A closed set of unbroken pairs carries acceptance from the first automaton to the second. Assumes nothing.
 use Rattle.std.proofs.Common.{◌≡◌, ℕ, Bool, true, List, [], ◌∷◌, ◌++◌, Some, sym, refl, subst, append_assoc}
-use Rattle.std.specs.List.{AllByRecursion as All}
+use Rattle.std.specs.List.{AllByRecursion}
 use Rattle.std.proofs.lemmas.Bool.{and_parts, and_from}
 use Rattle.codec.specs.Trees.{Tree, node, Children, none, child, word}
 use Rattle.schema.specs.Automata.{Automaton, passes, allowed, accepts, accepts_all}
@@ -10,7 +10,7 @@ use Rattle.compare.specs.Breaking.{Closed, ClosedCarries}
 
 module _ (A : Automaton) where
   -- the symbols of accepted children lead to live states
-  leads : (p : ℕ) (cs : Children) → accepts_all A p cs ≡ true → All (λ a. (s : ℕ) × (A.next p a ≡ Some s) × Live A s) (word cs)
+  leads : (p : ℕ) (cs : Children) → accepts_all A p cs ≡ true → AllByRecursion (λ a. (s : ℕ) × (A.next p a ≡ Some s) × Live A s) (word cs)
   leads p none h = tt
   leads p (child a t cs) h =
       let parts = and_parts (passes (A.next p a) (λ s. accepts A s t)) _ h in
@@ -18,10 +18,10 @@ module _ (A : Automaton) where
       ((next.0, next.1, (t, next.2)), leads p cs parts.1)
 
   -- each symbol of a live sequence is live
-  live_symbols : (p : ℕ) (w : List ℕ) → LiveSequence A p w → All (LiveSymbol A p) w
+  live_symbols : (p : ℕ) (w : List ℕ) → LiveSequence A p w → AllByRecursion (LiveSymbol A p) w
   live_symbols p w live = onwards [] w live
     where
-      onwards : (u v : List ℕ) → LiveSequence A p (u ++ v) → All (LiveSymbol A p) v
+      onwards : (u v : List ℕ) → LiveSequence A p (u ++ v) → AllByRecursion (LiveSymbol A p) v
       onwards u [] live = tt
       onwards u (a ∷ v) live = ((u, v, live), onwards (u ++ a ∷ []) v (subst (λ (w : List ℕ). LiveSequence A p w) (sym (append_assoc u (a ∷ []) v)) live))
 
@@ -35,7 +35,7 @@ module _ (A B : Automaton) (P : ℕ → ℕ → Bool) (closed : Closed A B P) wh
         let live : LiveSequence A p (word cs) = (content.0, leads A p cs content.1) in
         and_from _ _ (unbroken.values v value.0) (and_from _ _ (unbroken.contents (word cs) live) (carries_all p q there cs (live_symbols A p (word cs) live) content.1))
 
-    carries_all : (p q : ℕ) → P p q ≡ true → (cs : Children) → All (LiveSymbol A p) (word cs) → accepts_all A p cs ≡ true → accepts_all B q cs ≡ true
+    carries_all : (p q : ℕ) → P p q ≡ true → (cs : Children) → AllByRecursion (LiveSymbol A p) (word cs) → accepts_all A p cs ≡ true → accepts_all B q cs ≡ true
     carries_all p q there none live h = refl
     carries_all p q there (child a t cs) live h =
         let parts = and_parts (passes (A.next p a) (λ s. accepts A s t)) _ h in

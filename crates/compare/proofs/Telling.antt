@@ -1,6 +1,6 @@
 -- A broken pair is told apart by a tree, and so is a pair with a symbol that leads to such a pair. Assumes nothing.
 use Rattle.std.proofs.Common.{◌≡◌, ℕ, true, false, List, [], ◌∷◌, ◌++◌, Some, None, Option, sym, refl, ap, subst}
-use Rattle.std.specs.List.{AllByRecursion as All}
+use Rattle.std.specs.List.{AllByRecursion}
 use Rattle.std.proofs.lemmas.Bool.{and_parts, and_from, and_left, and_right, false≢true}
 use Rattle.codec.specs.Trees.{Tree, node, Children, none, child, word}
 use Rattle.schema.specs.Automata.{Automaton, passes, present, row_runs, has_next, allowed, accepts, accepts_all}
@@ -34,7 +34,7 @@ module _ (A : Automaton) where
       }
 
   -- children for a sequence into live states
-  grow : (p : ℕ) (w : List ℕ) → All (Leads p) w → Grown p w
+  grow : (p : ℕ) (w : List ℕ) → AllByRecursion (Leads p) w → Grown p w
   grow p [] all = record { children = none; spells = refl; all = refl }
   grow p (a ∷ w) all = grow_child p a all.0.0 all.0.2.0 w all.0.1 all.0.2.1 (grow p w all.1)
 
@@ -64,7 +64,7 @@ module _ (A B : Automaton) (p q : ℕ) (live : Live A p) where
       (node v.0 g.children, accepted A p v.0 w v.1 may g, and_right _ _ (and_left _ _ (subst (λ (u : List ℕ). allowed B q u ≡ false) (sym g.spells) not_there)))
 
   -- children for a sequence with a tree of one's own under one of its symbols, which the second automaton refuses
-  grow_with : (a s : ℕ) (t : Tree) → A.next p a ≡ Some s → accepts A s t ≡ true → passes (B.next q a) (λ u. accepts B u t) ≡ false → (u v : List ℕ) → All (Leads A p) (u ++ a ∷ v) → (g : Grown A p (u ++ a ∷ v)) × (accepts_all B q g.children ≡ false)
+  grow_with : (a s : ℕ) (t : Tree) → A.next p a ≡ Some s → accepts A s t ≡ true → passes (B.next q a) (λ u. accepts B u t) ≡ false → (u v : List ℕ) → AllByRecursion (Leads A p) (u ++ a ∷ v) → (g : Grown A p (u ++ a ∷ v)) × (accepts_all B q g.children ≡ false)
   grow_with a s t is here refused [] v all = (grow_child A p a s t v is here (grow A p v all.1), and_left _ _ refused)
   grow_with a s t is here refused (b ∷ u) v all =
       let rest = grow_with a s t is here refused u v all.1 in

@@ -1,6 +1,6 @@
 -- Numbers gathered along edges, and the rows that sequences lead to. Assumes nothing.
 use Rattle.std.proofs.Common.{◌≡◌, ℕ, ◌+◌, ◌<◌, ◌≤◌, Bool, true, false, cond, ◌&&◌, ◌||◌, eqb, ltb, ◌⊎◌, List, [], ◌∷◌, ◌++◌, Some, None, Option, sym, refl, ap, ◌∙◌, subst, inl, inr, ⊎_elim, append-nil, arith}
-use Rattle.std.specs.List.{AllByRecursion as All}
+use Rattle.std.specs.List.{AllByRecursion}
 use Rattle.std.proofs.ByRecursion.{All-push}
 use Rattle.std.proofs.lemmas.Bool.{and_parts, and_from, and_right, both_ways, cases_Bool, cases_lt, eqb-true, eq-eqb, lt-ltb, not_from_false, or_cases, or_left, or_right}
 use Rattle.domain.specs.Kinds.{bit, in_bits}
@@ -181,7 +181,7 @@ module _ (A : Automaton) (q : ℕ) (set : ℕ → Bool) where
   ends_runs r i so ends = (so.0, so.1, subst (λ (u : List ℕ). row_runs A q r u ≡ true) (append-nil so.0) (runs_on so.0 [] r i so.2 ends))
 
   -- a sequence over the set ends at a row that was reached
-  pub ends_reached : (from rows : ℕ) → ReachedFrom A q set from rows → (w : List ℕ) (r : ℕ) → bit rows r ≡ true → All (λ a. set a ≡ true) w → row_runs A q r w ≡ true → (i : ℕ) × (bit rows i ≡ true) × (A.ends q i ≡ true)
+  pub ends_reached : (from rows : ℕ) → ReachedFrom A q set from rows → (w : List ℕ) (r : ℕ) → bit rows r ≡ true → AllByRecursion (λ a. set a ≡ true) w → row_runs A q r w ≡ true → (i : ℕ) × (bit rows i ≡ true) × (A.ends q i ≡ true)
   ends_reached from rows all [] r here over runs = (r, here, runs)
   ends_reached from rows all (a ∷ w) r here over runs =
       let next = passed (A.step q r a) (λ s. row_runs A q s w) runs in

@@ -1,6 +1,6 @@
 -- A symbol that a sequence holds leads from a row that was reached to one that goes on to an end. Assumes nothing.
 use Rattle.std.proofs.Common.{◌≡◌, ℕ, ◌<◌, Bool, true, ◌&&◌, List, [], ◌∷◌, ◌++◌, Some, Decides, sym, refl, ap, ◌∙◌, subst}
-use Rattle.std.specs.List.{AllByRecursion as All}
+use Rattle.std.specs.List.{AllByRecursion}
 use Rattle.std.proofs.ByRecursion.{All-append, All-weaker}
 use Rattle.std.proofs.lemmas.Bool.{and_parts, and_from}
 use Rattle.domain.specs.Kinds.{bit}
@@ -33,7 +33,7 @@ module _ (A : Automaton) (q : ℕ) (set : ℕ → Bool) (count reached ending : 
         runs_on A q set before.0 (a ∷ after.0) 0 at.0 before.2 (subst (λ o. passes o (λ s. row_runs A q s after.0) ≡ true) (sym next.1) after.2),
       )
 
-  held_from : (u v : List ℕ) (a r : ℕ) → bit reached r ≡ true → All (λ b. set b ≡ true) (u ++ a ∷ v) → row_runs A q r (u ++ a ∷ v) ≡ true → (set a ≡ true) × (some_below count (on_the_way a) ≡ true)
+  held_from : (u v : List ℕ) (a r : ℕ) → bit reached r ≡ true → AllByRecursion (λ b. set b ≡ true) (u ++ a ∷ v) → row_runs A q r (u ++ a ∷ v) ≡ true → (set a ≡ true) × (some_below count (on_the_way a) ≡ true)
   held_from [] v a r here over runs =
       let next = passed (A.step q r a) (λ s. row_runs A q s v) runs in
       let low = within r here in
@@ -58,15 +58,15 @@ module _ (B : Automaton) (n live q : ℕ) (low : q < n) (inside : (q a s : ℕ) 
   from_live : (a : ℕ) → (s : ℕ) × (B.next q a ≡ Some s) × Live B s → passes (B.next q a) (bit live) ≡ true
   from_live a s = subst (λ o. passes o (bit live) ≡ true) (sym s.1) ((mask s.0).1 (inside q a s.0 low s.1, s.2))
 
-  have_next : (w : List ℕ) → All (λ a. passes (B.next q a) (bit live) ≡ true) w → has_next B q w ≡ true
+  have_next : (w : List ℕ) → AllByRecursion (λ a. passes (B.next q a) (bit live) ≡ true) w → has_next B q w ≡ true
   have_next [] over = refl
   have_next (a ∷ w) over = and_from _ _ (ap present (to_live a over.0).1) (have_next w over.1)
 
   -- a sequence over them that runs is live, and a live one runs over them
-  pub live_of_over : (w : List ℕ) → All (λ a. passes (B.next q a) (bit live) ≡ true) w → row_runs B q 0 w ≡ true → LiveSequence B q w
+  pub live_of_over : (w : List ℕ) → AllByRecursion (λ a. passes (B.next q a) (bit live) ≡ true) w → row_runs B q 0 w ≡ true → LiveSequence B q w
   live_of_over w over runs = (and_from _ _ runs (have_next w over), All-weaker (λ a. passes (B.next q a) (bit live) ≡ true) (λ a. (s : ℕ) × (B.next q a ≡ Some s) × Live B s) to_live w over)
 
-  pub over_of_live : (w : List ℕ) → LiveSequence B q w → All (λ a. passes (B.next q a) (bit live) ≡ true) w × (row_runs B q 0 w ≡ true)
+  pub over_of_live : (w : List ℕ) → LiveSequence B q w → AllByRecursion (λ a. passes (B.next q a) (bit live) ≡ true) w × (row_runs B q 0 w ≡ true)
   over_of_live w h = (All-weaker (λ a. (s : ℕ) × (B.next q a ≡ Some s) × Live B s) (λ a. passes (B.next q a) (bit live) ≡ true) from_live w h.1, (and_parts (row_runs B q 0 w) _ h.0).0)
 
   pub live_of_held : (a : ℕ) → Held B q (λ b. passes (B.next q b) (bit live)) a → LiveSymbol B q a

@@ -1,7 +1,7 @@
 -- Rounds: what they find accepts a tree, their number is its rank, and where they find nothing more all live states are found. Assumes nothing.
 use Rattle.std.proofs.Common.{◌≡◌, ℕ, ◌+◌, ◌^◌, ◌<◌, ◌≤◌, Bool, true, false, cond, ◌&&◌, ◌||◌, eqb, ltb, List, [], ◌∷◌, get_or, Some, Decides, sym, refl, ap, ◌∙◌, subst, ⊎_elim, arith}
 use lib.Bits.{bit_or, or_lt}
-use Rattle.std.specs.List.{AllByRecursion as All}
+use Rattle.std.specs.List.{AllByRecursion}
 use Rattle.std.proofs.ByRecursion.{All-weaker}
 use Rattle.std.proofs.lemmas.Bool.{and_parts, and_from, both_ways, cases_Bool, cases_eq, cases_lt, cond-true, cond-false, or_cases, or_left, or_parts, or_right}
 use Rattle.codec.specs.Trees.{Tree, node, Children, none, child, word, height, heights}
@@ -65,7 +65,7 @@ module _ (A : Automaton) (n : ℕ) (few : n ≤ 64) (inside : (q a s : ℕ) → 
     next : has_next A q w ≡ true
     low : heights children ≤ m
 
-  grow : (m : ℕ) (states : ℕ → Bool) → ((s : ℕ) → states s ≡ true → Below A m s) → (q : ℕ) (w : List ℕ) → All (λ a. passes (A.next q a) states ≡ true) w → Grown m q w
+  grow : (m : ℕ) (states : ℕ → Bool) → ((s : ℕ) → states s ≡ true → Below A m s) → (q : ℕ) (w : List ℕ) → AllByRecursion (λ a. passes (A.next q a) states ≡ true) w → Grown m q w
   grow m states lower q [] over = record { children = none; spells = refl; all = refl; next = refl; low = omega arith }
   grow m states lower q (a ∷ w) over =
       let s = passed (A.next q a) states over.0 in
@@ -97,7 +97,7 @@ module _ (A : Automaton) (n : ℕ) (few : n ≤ 64) (inside : (q a s : ℕ) → 
       let runs = and_parts (row_runs A q 0 (word cs)) _ content.0 in
       ((v, value.0), (word cs, over cs content.1 (omega arith), runs.0))
     where
-      over : (cs : Children) → accepts_all A q cs ≡ true → heights cs ≤ m → All (λ a. passes (A.next q a) states ≡ true) (word cs)
+      over : (cs : Children) → accepts_all A q cs ≡ true → heights cs ≤ m → AllByRecursion (λ a. passes (A.next q a) states ≡ true) (word cs)
       over none h lower = tt
       over (child a t cs) h lower =
           let parts = and_parts (passes (A.next q a) (λ s. accepts A s t)) _ h in
@@ -210,7 +210,7 @@ module _ (A : Automaton) (n : ℕ) (few : n ≤ 64) (inside : (q a s : ℕ) → 
           let f : Found A (bit live) q = ((v, value.0), (word cs, all_below end q cs low content.1, runs.0)) in
           ⊎_elim (λ there. there) (λ out. absurd (both_ways (bit found q) (ap (λ (m : ℕ). bit m q) end ∙ bit_zero q) ((round q).1 (low, (out, f))))) (cases_Bool (bit live q))
 
-      all_below : found ≡ 0 → (q : ℕ) (cs : Children) → q < n → accepts_all A q cs ≡ true → All (λ a. passes (A.next q a) (bit live) ≡ true) (word cs)
+      all_below : found ≡ 0 → (q : ℕ) (cs : Children) → q < n → accepts_all A q cs ≡ true → AllByRecursion (λ a. passes (A.next q a) (bit live) ≡ true) (word cs)
       all_below end q none low h = tt
       all_below end q (child a t cs) low h =
           let parts = and_parts (passes (A.next q a) (λ s. accepts A s t)) _ h in

@@ -1,6 +1,6 @@
 -- Live states: those that accept some finite tree. Assumes nothing.
 use Rattle.std.specs.Prelude.{◌≡◌, ℕ, ◌<◌, ◌≤◌, Bool, true, false, List, [], ◌∷◌, ◌++◌, Some, Decides, slice_index}
-use Rattle.std.specs.List.{AllByRecursion as All}
+use Rattle.std.specs.List.{AllByRecursion}
 use Rattle.codec.specs.Trees.{Tree, height}
 use Rattle.domain.specs.Kinds.{bit}
 use Rattle.schema.specs.Automata.{Automaton, passes, allowed, accepts}
@@ -13,7 +13,7 @@ module _ (A : Automaton) where
 
   -- a sequence is live at a state when it is allowed there and leads only to live states
   abbrev pub LiveSequence : ℕ → List ℕ → Type 0
-  LiveSequence q w = (allowed A q w ≡ true) × All (λ a. (s : ℕ) × (A.next q a ≡ Some s) × Live s) w
+  LiveSequence q w = (allowed A q w ≡ true) × AllByRecursion (λ a. (s : ℕ) × (A.next q a ≡ Some s) × Live s) w
 
   -- a symbol is live at a state when a live sequence holds it
   abbrev pub LiveSymbol : ℕ → ℕ → Type 0

@@ -1,6 +1,6 @@
 -- Sequences at a state over a set of symbols, and the rows that they lead to. Assumes nothing.
 use Rattle.std.specs.Prelude.{◌≡◌, ℕ, ◌<◌, Bool, true, ◌⊎◌, List, [], ◌∷◌, ◌++◌, Some, None, Option}
-use Rattle.std.specs.List.{AllByRecursion as All}
+use Rattle.std.specs.List.{AllByRecursion}
 use Rattle.domain.specs.Kinds.{bit}
 use Rattle.schema.specs.Automata.{Automaton, row_runs}
 
@@ -28,19 +28,19 @@ module _ (A : Automaton) (q : ℕ) where
 
     -- some sequence over the set runs from the first row to a row where it may end
     abbrev pub RunsOver : Type 0
-    RunsOver = (w : List ℕ) × All (λ a. set a ≡ true) w × (row_runs A q 0 w ≡ true)
+    RunsOver = (w : List ℕ) × AllByRecursion (λ a. set a ≡ true) w × (row_runs A q 0 w ≡ true)
 
     -- some sequence over the set runs from row r to a row where it may end
     abbrev pub RunsOverFrom : ℕ → Type 0
-    RunsOverFrom r = (w : List ℕ) × All (λ a. set a ≡ true) w × (row_runs A q r w ≡ true)
+    RunsOverFrom r = (w : List ℕ) × AllByRecursion (λ a. set a ≡ true) w × (row_runs A q r w ≡ true)
 
     -- some sequence over the set leads from row r to row s
     abbrev pub LeadsOver : ℕ → ℕ → Type 0
-    LeadsOver r s = (w : List ℕ) × All (λ a. set a ≡ true) w × (leads r w ≡ Some s)
+    LeadsOver r s = (w : List ℕ) × AllByRecursion (λ a. set a ≡ true) w × (leads r w ≡ Some s)
 
     -- some sequence over the set that holds the symbol runs from the first row to a row where it may end
     abbrev pub Held : ℕ → Type 0
-    Held a = (u v : List ℕ) × All (λ b. set b ≡ true) (u ++ a ∷ v) × (row_runs A q 0 (u ++ a ∷ v) ≡ true)
+    Held a = (u v : List ℕ) × AllByRecursion (λ b. set b ≡ true) (u ++ a ∷ v) × (row_runs A q 0 (u ++ a ∷ v) ≡ true)
 
     -- the rows of a set, and those that one symbol of the set leads to from row r
     pub record After (r before after : ℕ) : Type 0 where
@@ -52,7 +52,7 @@ module _ (A : Automaton) (q : ℕ) where
     pub record Reached (rows : ℕ) : Type 0 where
       pub start : bit rows 0 ≡ true
       pub closed : (i a j : ℕ) → bit rows i ≡ true → set a ≡ true → A.step q i a ≡ Some j → bit rows j ≡ true
-      pub only : (i : ℕ) → bit rows i ≡ true → (w : List ℕ) × All (λ a. set a ≡ true) w × (leads 0 w ≡ Some i)
+      pub only : (i : ℕ) → bit rows i ≡ true → (w : List ℕ) × AllByRecursion (λ a. set a ≡ true) w × (leads 0 w ≡ Some i)
 
     -- exactly the rows that sequences over the set lead to from row r
     pub record ReachedFrom (r rows : ℕ) : Type 0 where

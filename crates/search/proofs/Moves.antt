@@ -2,7 +2,7 @@
 use Rattle.std.proofs.Common.{◌≡◌, ℕ, Bool, true, false, cond, ◌&&◌, List, [], ◌∷◌, ◌++◌, reverse, Some, None, Option, sym, refl, ap, ◌∙◌}
 use mathlib.Core.List.{reverse-cons}
 use Rattle.std.specs.Option.{option_map}
-use Rattle.std.specs.List.{AllByRecursion as All}
+use Rattle.std.specs.List.{AllByRecursion}
 use Rattle.std.proofs.lemmas.List.{reverse-reverse}
 use Rattle.std.proofs.lemmas.Bool.{and_parts, and_from, both_ways}
 use Rattle.schema.specs.Automata.{Automaton, passes, row_runs}
@@ -76,7 +76,7 @@ module _ (A : Automaton) (q : ℕ) (set : ℕ → Bool) (W : Watching) where
   passes_some None test h = absurd (both_ways false refl h)
 
   -- a sequence that leads to a goal is sought, and the other way round, from any place
-  sought_from : (w : List ℕ) (n m : Place) → follow n w ≡ Some m → is_goal m ≡ true → All (λ a. set a ≡ true) w × (row_runs A q n.row w ≡ true) × (W.wants (watched W n.watch w) ≡ true)
+  sought_from : (w : List ℕ) (n m : Place) → follow n w ≡ Some m → is_goal m ≡ true → AllByRecursion (λ a. set a ≡ true) w × (row_runs A q n.row w ≡ true) × (W.wants (watched W n.watch w) ≡ true)
   sought_from [] n m to there = let parts = and_parts (A.ends q n.row) (W.wants n.watch) (ap is_goal (some_same to) ∙ there) in (tt, parts.0, parts.1)
   sought_from (a ∷ w) n m to there =
       let s = onward_some (move n a) (λ x. follow x w) m to in
@@ -84,7 +84,7 @@ module _ (A : Automaton) (q : ℕ) (set : ℕ → Bool) (W : Watching) where
       let rest = sought_from w s.0 m s.2 there in
       ((by.0, rest.0), ap (λ o. passes o (λ r. row_runs A q r w)) by.1 ∙ rest.1, ap (λ (x : ℕ). W.wants (watched W x w)) (sym by.2) ∙ rest.2)
 
-  follows_from : (w : List ℕ) (n : Place) → All (λ a. set a ≡ true) w → row_runs A q n.row w ≡ true → W.wants (watched W n.watch w) ≡ true → (m : Place) × (follow n w ≡ Some m) × (is_goal m ≡ true)
+  follows_from : (w : List ℕ) (n : Place) → AllByRecursion (λ a. set a ≡ true) w → row_runs A q n.row w ≡ true → W.wants (watched W n.watch w) ≡ true → (m : Place) × (follow n w ≡ Some m) × (is_goal m ≡ true)
   follows_from [] n over runs wants = (n, refl, and_from _ _ runs wants)
   follows_from (a ∷ w) n over runs wants =
       let r = passes_some (A.step q n.row a) (λ r. row_runs A q r w) runs in

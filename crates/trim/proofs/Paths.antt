@@ -1,6 +1,6 @@
 -- Live symbols lead to a state exactly when some node of some accepted tree is bound to it. Assumes nothing.
 use Rattle.std.proofs.Common.{◌≡◌, ℕ, Bool, true, List, [], ◌∷◌, ◌++◌, Some, sym, refl, ap, ◌∙◌, subst, inl, inr, ⊎_elim, append_assoc}
-use Rattle.std.specs.List.{AllByRecursion as All}
+use Rattle.std.specs.List.{AllByRecursion}
 use Rattle.std.proofs.lemmas.Bool.{and_parts}
 use Rattle.codec.specs.Trees.{Tree, node, Children, none, child, word}
 use Rattle.schema.specs.Automata.{Automaton, allowed, accepts}
@@ -22,10 +22,10 @@ module _ (A : Automaton) where
   Leads q a = (s : ℕ) × (A.next q a ≡ Some s) × Live A s
 
   -- each symbol of a live sequence is live
-  live_symbols : (q : ℕ) (w : List ℕ) → LiveSequence A q w → All (LiveSymbol A q) w
+  live_symbols : (q : ℕ) (w : List ℕ) → LiveSequence A q w → AllByRecursion (LiveSymbol A q) w
   live_symbols q w live = onwards [] w live
     where
-      onwards : (u v : List ℕ) → LiveSequence A q (u ++ v) → All (LiveSymbol A q) v
+      onwards : (u v : List ℕ) → LiveSequence A q (u ++ v) → AllByRecursion (LiveSymbol A q) v
       onwards u [] live = tt
       onwards u (a ∷ v) live = ((u, v, live), onwards (u ++ a ∷ []) v (subst (λ (w : List ℕ). LiveSequence A q w) (sym (append_assoc u (a ∷ []) v)) live))
 
@@ -33,7 +33,7 @@ module _ (A : Automaton) where
   pub live_leads : (q a : ℕ) → LiveSymbol A q a → Leads q a
   live_leads q a (u, v, live) = at_symbol u live.1
     where
-      at_symbol : (u : List ℕ) → All (Leads q) (u ++ a ∷ v) → Leads q a
+      at_symbol : (u : List ℕ) → AllByRecursion (Leads q) (u ++ a ∷ v) → Leads q a
       at_symbol [] all = all.0
       at_symbol (b ∷ u) all = at_symbol u all.1
 
@@ -45,13 +45,13 @@ module _ (A : Automaton) where
   path_push [] p q a s e live is = (subst (λ (k : ℕ). LiveSymbol A k a) (sym e) live, (s, ap (λ (k : ℕ). A.next k a) e ∙ is, refl))
   path_push (b ∷ w) p q a s path live is = (path.0, (path.1.0, path.1.1, path_push w path.1.0 q a s path.1.2 live is))
 
-  leads_all : (q : ℕ) (cs : Children) (bs : StatesBelow) → BoundAll A q cs bs → All (Leads q) (word cs)
+  leads_all : (q : ℕ) (cs : Children) (bs : StatesBelow) → BoundAll A q cs bs → AllByRecursion (Leads q) (word cs)
   leads_all q none bs bound = tt
   leads_all q (child a t cs) leaf bound = absurd bound
   leads_all q (child a t cs) (beside b bs) bound = ((root b, bound.0, (t, accepted_is_bound.accepted A t b bound.1)), leads_all q cs bs bound.2)
 
   -- the symbols of a bound node's children are live
-  pub bound_live : (v : ℕ) (cs : Children) (q : ℕ) (bs : StatesBelow) → Bound A (node v cs) (at q bs) → All (LiveSymbol A q) (word cs)
+  pub bound_live : (v : ℕ) (cs : Children) (q : ℕ) (bs : StatesBelow) → Bound A (node v cs) (at q bs) → AllByRecursion (LiveSymbol A q) (word cs)
   bound_live v cs q bs bound = live_symbols q (word cs) (bound.1, leads_all q cs bs bound.2)
 
   -- what live symbols pass on holds of every state of a bound tree if it holds of the root's
@@ -60,7 +60,7 @@ module _ (A : Automaton) where
       pub down : (t : Tree) (b : States) (q : ℕ) → Bound A t b → K (root b) → Occurs q b → K q
       down (node v cs) (at r bs) q bound here there = ⊎_elim (λ e. subst K e here) (λ below. down_all r cs bs q here (bound_live v cs r bs bound) bound.2 below) there
 
-      down_all : (r : ℕ) (cs : Children) (bs : StatesBelow) (q : ℕ) → K r → All (LiveSymbol A r) (word cs) → BoundAll A r cs bs → OccursBelow q bs → K q
+      down_all : (r : ℕ) (cs : Children) (bs : StatesBelow) (q : ℕ) → K r → AllByRecursion (LiveSymbol A r) (word cs) → BoundAll A r cs bs → OccursBelow q bs → K q
       down_all r none bs q here live bound there = none_there bs bound there
         where
           none_there : (bs : StatesBelow) → BoundAll A r none bs → OccursBelow q bs → K q
@@ -88,7 +88,7 @@ module _ (A : Automaton) where
     bound : BoundAll A q children below
 
   -- children for a sequence into live states
-  grow : (q : ℕ) (w : List ℕ) → All (Leads q) w → Grown q w
+  grow : (q : ℕ) (w : List ℕ) → AllByRecursion (Leads q) w → Grown q w
   grow q [] all = record { children = none; below = leaf; spells = refl; bound = tt }
   grow q (a ∷ w) all =
       let first = accepted_is_bound.bound A all.0.0 all.0.2.0 all.0.2.1 in
@@ -101,7 +101,7 @@ module _ (A : Automaton) where
       }
 
   -- and with a tree of one's own under one of its symbols
-  grow_with : (p a s q : ℕ) → A.next p a ≡ Some s → Spot s q → (u v : List ℕ) → All (Leads p) (u ++ a ∷ v) → (g : Grown p (u ++ a ∷ v)) × OccursBelow q g.below
+  grow_with : (p a s q : ℕ) → A.next p a ≡ Some s → Spot s q → (u v : List ℕ) → AllByRecursion (Leads p) (u ++ a ∷ v) → (g : Grown p (u ++ a ∷ v)) × OccursBelow q g.below
   grow_with p a s q is spot [] v all =
       let rest = grow p v all.1 in (
         record {

@@ -1,6 +1,6 @@
 -- The trimmed automaton accepts at a kept state's number the trees that the state accepts over permitted symbols. Assumes nothing.
 use Rattle.std.proofs.Common.{◌≡◌, ℕ, ◌<◌, Bool, true, List, Some, None, sym, refl, ap, ◌∙◌, subst, inl, inr, ⊎_elim}
-use Rattle.std.specs.List.{AllByRecursion as All}
+use Rattle.std.specs.List.{AllByRecursion}
 use Rattle.std.proofs.lemmas.Bool.{and_parts, and_from}
 use Rattle.codec.specs.Trees.{Tree, node, Children, none, child, word}
 use Rattle.schema.specs.Automata.{Automaton, passes, present, row_runs, has_next, allowed, accepts, accepts_all}
@@ -60,7 +60,7 @@ module _ (T : Tables) (domains : List (ℕ → Bool)) (permitted kept : ℕ → 
           below.1,
         )
 
-    below_new : (q : ℕ) (cs : Children) (bs : StatesBelow) → kept q ≡ true → All (LiveSymbol (permit permitted (automaton T domains)) q) (word cs) → BoundAll (permit permitted (automaton T domains)) q cs bs → All (Goes T domains permitted kept fault inside q) (word cs) × BoundAll (automaton (trimmed T permitted kept) domains) (number T permitted kept q) cs (renumber_all (number T permitted kept) bs)
+    below_new : (q : ℕ) (cs : Children) (bs : StatesBelow) → kept q ≡ true → AllByRecursion (LiveSymbol (permit permitted (automaton T domains)) q) (word cs) → BoundAll (permit permitted (automaton T domains)) q cs bs → AllByRecursion (Goes T domains permitted kept fault inside q) (word cs) × BoundAll (automaton (trimmed T permitted kept) domains) (number T permitted kept q) cs (renumber_all (number T permitted kept) bs)
     below_new q none leaf there live bound = (tt, tt)
     below_new q none (beside b bs) there live bound = absurd bound
     below_new q (child a t cs) leaf there live bound = absurd bound

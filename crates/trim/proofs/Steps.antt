@@ -1,6 +1,6 @@
 -- What the trimmed automaton looks up at a kept state's number is what the old one has there, renumbered. Assumes nothing.
 use Rattle.std.proofs.Common.{◌≡◌, ℕ, ◌^◌, ◌<◌, ◌≤◌, Bool, true, false, cond, ◌&&◌, eqb, ltb, List, [], ◌∷◌, get_or, is_some, Some, None, sym, refl, ap, ◌∙◌, subst, arith}
-use Rattle.std.specs.List.{AllByRecursion as All}
+use Rattle.std.specs.List.{AllByRecursion}
 use Rattle.std.proofs.lemmas.Bool.{and_from, cond-true, lt-ltb}
 use Rattle.schema.specs.Automata.{passes, row_runs}
 use Rattle.schema.specs.Faults.{table_fault}
@@ -79,7 +79,7 @@ module _ (T : Tables) (domains : List (ℕ → Bool)) (permitted kept : ℕ → 
     pub has_same : (v : ℕ) → (automaton (trimmed T permitted kept) domains).has (number T permitted kept q) v ≡ (automaton T domains).has q v
     has_same v = ap (λ (d : ℕ). ltb v (2 ^ 32) && get_or domains d (λ _. false) v) (domain_new T permitted kept q (inside q there) there)
 
-    pub runs_on : (w : List ℕ) (r : ℕ) → r < row_count T q → All (Goes q) w → row_runs (automaton T domains) q r w ≡ true → row_runs (automaton (trimmed T permitted kept) domains) (number T permitted kept q) r w ≡ true
+    pub runs_on : (w : List ℕ) (r : ℕ) → r < row_count T q → AllByRecursion (Goes q) w → row_runs (automaton T domains) q r w ≡ true → row_runs (automaton (trimmed T permitted kept) domains) (number T permitted kept q) r w ≡ true
     runs_on [] r low all runs = ends_same r low ∙ runs
     runs_on (a ∷ w) r low all runs =
         let to = passed ((automaton T domains).step q r a) (λ s. row_runs (automaton T domains) q s w) runs in
