@@ -68,7 +68,7 @@ pub record Fits (n m i : ℕ) (e : Listed) : Type 0 where
   pub second_inside : e.second < m
   pub led : 0 < i → e.parent < i
 
--- `kept-pairs` in plain facts
+-- `kept_pairs` in plain facts
 pub record Kept (n m : ℕ) (slots : List Listed) (k : ℕ) (bits : List ℕ) : Type 0 where
   pub few_firsts : n ≤ 64
   pub few_seconds : m ≤ 64

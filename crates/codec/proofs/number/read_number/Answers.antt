@@ -16,8 +16,8 @@ record Right (c : goal.After-from) : Type 0 where
   low : c.from.result ≡ c.in-Some.byte % 128
   scaled : Scaled c.loop-group.value (c.in-Some.byte % 128) c.loop-group.group
 
-right-byte : (c : goal.After-from) → Right c
-right-byte c =
+right_byte : (c : goal.After-from) → Right c
+right_byte c =
     let input = c.args.input.now in
     let at = c.loop-group.at in
     let b = c.in-Some.byte in
@@ -48,13 +48,13 @@ returns-then-is_wrong c =
 
 pub overflow_add-value : goal.overflow_add-value
 overflow_add-value c =
-    let r = right-byte c in
+    let r = right_byte c in
     let sum : c.loop-group.value + c.in-Some.byte % 128 * 2 ^ (7 * c.loop-group.group) % 4294967296 < 2 ^ 32 = omega (arith, r.scaled.whole, r.scaled.fits) in
     record { fits = subst (λ (n : ℕ). c.loop-group.value + n * 2 ^ (7 * c.loop-group.group) % 4294967296 < 2 ^ 32) (sym r.low) sum }
 
 pub returns-then-byte-lt128 : goal.returns-then-byte-lt128
 returns-then-byte-lt128 c =
-    let r = right-byte (goal.at.returns-then-byte-lt128 c).After-from in
+    let r = right_byte (goal.at.returns-then-byte-lt128 c).After-from in
     let input = c.args.input.now in
     let at = c.loop-group.at in
     let reads = last_group input c.args.place c.loop-group.value at c.loop-group.group c.loop-group.invariant c.in-Some.byte r.here r.right r.byte c.if-byte-lt128.true in (
@@ -65,7 +65,7 @@ returns-then-byte-lt128 c =
 
 pub loop-group-preserved : goal.loop-group-preserved
 loop-group-preserved c =
-    let r = right-byte (goal.at.loop-group-preserved c).After-from in
+    let r = right_byte (goal.at.loop-group-preserved c).After-from in
     let input = c.args.input.now in
     let at = c.loop-group.at in
     subst (λ (n : ℕ). Partial input c.args.place (c.loop-group.value + n * 2 ^ (7 * c.loop-group.group) % 4294967296) (at + 1) (c.loop-group.group + 1)) (sym r.low)
