@@ -9,7 +9,6 @@ use crate::compared::Compared;
 use crate::phase::Kind;
 use codec::pile::Pile;
 use domain::domain::Domain;
-use schema::live::ALL_SYMBOLS;
 use search::pairs::RowPair;
 use search::search::search;
 use search::watchers::Refused;
