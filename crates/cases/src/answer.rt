@@ -1,12 +1,12 @@
 //! What a case comes to, and how it is printed.
 use api::Refusal;
 use notation::bytes::Listed;
-use notation::outputs::Outputs;
+use notation::outputs::{Counts, Outputs};
 use notation::states::States;
 use std::fmt;
 
 /// The answer to a case.
-#[derive(Drop)]
+#[derive(Debug, Drop, PartialEq, Eq)]
 pub enum Answer {
     /// The letters that a number stands for.
     Word(&'static str),
@@ -20,10 +20,10 @@ pub enum Answer {
     Value(Option<u32>),
     /// States, one a bit.
     States(u64),
-    /// A trimmed schema's state count and row count, and the outputs with its tables.
-    Trimmed(usize, usize, Outputs),
+    /// A trimmed schema's counts, and the outputs with its tables.
+    Trimmed(Counts, Outputs),
     /// Why a schema was not trimmed, and whether the outputs are as they were.
-    Untrimmed(Refusal, bool),
+    Untrimmed { refusal: Refusal, as_found: bool },
 }
 
 /// Prints the three outputs, each whole.
@@ -46,12 +46,14 @@ impl fmt::Display for Answer {
             Answer::Value(None) => write!(f, "none"),
             Answer::States(0) => write!(f, "no states"),
             Answer::States(states) => write!(f, "states {}", States(*states)),
-            Answer::Trimmed(states, rows, outputs) => {
-                write!(f, "{states} states, {rows} rows; ")?;
+            Answer::Trimmed(counts, outputs) => {
+                write!(f, "{} states, {} rows; ", counts.states, counts.rows)?;
                 print_outputs(outputs, f)
             }
-            Answer::Untrimmed(refusal, true) => write!(f, "refused {refusal}; outputs as found"),
-            Answer::Untrimmed(refusal, false) => write!(f, "refused {refusal}; outputs changed"),
+            Answer::Untrimmed { refusal, as_found } => {
+                let left = if *as_found { "as found" } else { "changed" };
+                write!(f, "refused {refusal}; outputs {left}")
+            }
         }
     }
 }

@@ -3,8 +3,7 @@ use crate::answer::Answer;
 use api::{Coverage, Domain, Joint, Keywords};
 use notation::kinds::Written;
 use notation::trouble::Trouble;
-use notation::words::{Words, end, number, word};
-use std::alloc::Global;
+use notation::words::Words;
 
 /// Keywords on the left and letters on the right.
 pub type Book = Joint<Keywords, Coverage>;
@@ -22,7 +21,8 @@ type Double = Joint<Book, Book>;
 type Nested = Joint<Joint<TwoKeys, Mirror>, Coverage>;
 
 /// What is asked of a domain.
-#[derive(Clone, Copy)]
+// Not a closure that is handed on: a closure takes a domain of one type, and each question is put to seven.
+#[derive(Clone, Copy, Debug, PartialEq, Eq)]
 pub enum Question {
     Has,
     Least,
@@ -30,43 +30,38 @@ pub enum Question {
 }
 
 /// Whether the ranges make a coverage.
-pub fn make<'a>(heap: Global, words: &mut Words<'a>) -> Result<Answer, Trouble<'a>> {
-    let _coverage = Coverage::read(heap, words)?;
-    end(words)?;
+pub fn make<'a>(words: &mut Words<'a>) -> Result<Answer, Trouble<'a>> {
+    let _coverage = Coverage::read(words)?;
+    words.end()?;
     Ok(Answer::Taken)
 }
 
 /// A question put to a domain of this kind.
 fn put<'a, D: Domain + Written>(
-    heap: Global,
     question: Question,
     words: &mut Words<'a>,
 ) -> Result<Answer, Trouble<'a>> {
-    let domain = D::read(heap, words)?;
+    let domain = D::read(words)?;
     let answer = match question {
-        Question::Has => Answer::Truth(domain.has(number(words)?)),
+        Question::Has => Answer::Truth(domain.has(words.number()?)),
         Question::Least => Answer::Value(domain.least()),
-        Question::Gap => Answer::Value(domain.gap(&D::read(heap, words)?)),
+        Question::Gap => Answer::Value(domain.gap(&D::read(words)?)),
     };
-    end(words)?;
+    words.end()?;
     Ok(answer)
 }
 
 /// A question put to a domain of the kind that the next word names.
-pub fn ask<'a>(
-    heap: Global,
-    question: Question,
-    words: &mut Words<'a>,
-) -> Result<Answer, Trouble<'a>> {
-    let kind = word(words)?;
+pub fn ask<'a>(question: Question, words: &mut Words<'a>) -> Result<Answer, Trouble<'a>> {
+    let kind = words.word()?;
     match kind {
-        "keywords" => put::<Keywords>(heap, question, words),
-        "coverage" => put::<Coverage>(heap, question, words),
-        "book" => put::<Book>(heap, question, words),
-        "mirror" => put::<Mirror>(heap, question, words),
-        "twokeys" => put::<TwoKeys>(heap, question, words),
-        "double" => put::<Double>(heap, question, words),
-        "nested" => put::<Nested>(heap, question, words),
+        "keywords" => put::<Keywords>(question, words),
+        "coverage" => put::<Coverage>(question, words),
+        "book" => put::<Book>(question, words),
+        "mirror" => put::<Mirror>(question, words),
+        "twokeys" => put::<TwoKeys>(question, words),
+        "double" => put::<Double>(question, words),
+        "nested" => put::<Nested>(question, words),
         _ => Err(Trouble::Unreadable(kind)),
     }
 }

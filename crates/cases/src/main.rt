@@ -2,9 +2,11 @@
 #![tactic(auto)]
 
 use crate::answer::Answer;
-use crate::trees::Shelf;
+use crate::domains::Question;
+use crate::trees::{Check, Live, Shelf};
+use crate::trims::Trim;
 use notation::trouble::Trouble;
-use notation::words::{aside, word};
+use notation::words::{Words, aside};
 use std::alloc::Global;
 use std::io::{BufRead, BufReader};
 
@@ -16,18 +18,18 @@ mod trims;
 
 /// What a case comes to. Its first word says what is asked, the others of what. A schema that it names goes onto the shelf.
 fn answered<'a>(heap: Global, shelf: &mut Shelf, case: &'a str) -> Result<Answer, Trouble<'a>> {
-    let mut words = case.split_whitespace();
-    let question = word(&mut words)?;
+    let mut words = Words::new(heap, case);
+    let question = words.word()?;
     match question {
         "word" => refusals::word(&mut words),
-        "make" => domains::make(heap, &mut words),
-        "has" => domains::ask(heap, domains::Question::Has, &mut words),
-        "least" => domains::ask(heap, domains::Question::Least, &mut words),
-        "gap" => domains::ask(heap, domains::Question::Gap, &mut words),
-        "schema" => shelf.define(heap, &mut words),
-        "check" => shelf.check(heap, &mut words),
-        "live" => shelf.live(&mut words),
-        "trim" => shelf.trim(heap, &mut words),
+        "make" => domains::make(&mut words),
+        "has" => domains::ask(Question::Has, &mut words),
+        "least" => domains::ask(Question::Least, &mut words),
+        "gap" => domains::ask(Question::Gap, &mut words),
+        "schema" => shelf.define(&mut words),
+        "check" => shelf.ask::<Check>(&mut words),
+        "live" => shelf.ask::<Live>(&mut words),
+        "trim" => shelf.ask::<Trim>(&mut words),
         _ => Err(Trouble::Unreadable(question)),
     }
 }

@@ -1,16 +1,23 @@
-//! Cases on schemas: `schema NAME KIND TABLES`, which names one for the cases after it, `check NAME BYTES LEVELS`, `live NAME` and
-//! `trim NAME PERMITTED LENGTH LENGTH LENGTH`.
+//! Cases on schemas: `schema NAME KIND TABLES`, which names one for the cases after it, and then what is asked of it, as
+//! `check NAME BYTES LEVELS` and `live NAME`.
 use crate::answer::Answer;
 use crate::domains::Book;
-use crate::trims;
-use api::{Coverage, Cursor, Domain, Keywords, Level};
-use notation::bytes::bytes;
-use notation::kinds::Written;
+use api::{Coverage, Cursor, Domain, Keywords, Level, Refusal};
 use notation::levels::levels;
 use notation::schemas::Tables;
 use notation::trouble::Trouble;
-use notation::words::{Words, end, number, word};
+use notation::words::Words;
 use std::alloc::Global;
+use std::collections::BTreeMap;
+
+/// What is asked of a schema, whatever the kind of its domains.
+pub trait Asked: Drop {
+    /// What the next words ask.
+    fn read<'a>(words: &mut Words<'a>) -> Result<Self, Trouble<'a>>;
+
+    /// The answer for the schema of the tables.
+    fn answer<D: Domain>(self, tables: &Tables<D>) -> Result<Answer, Refusal>;
+}
 
 /// The tables of a schema of one of the kinds.
 #[derive(Drop)]
@@ -20,118 +27,95 @@ enum Kinded {
     Book(Tables<Book>),
 }
 
-/// A schema under its name.
-#[derive(Drop)]
-struct Entry {
-    name: String,
-    tables: Kinded,
-}
-
-/// The schemas that the cases so far named.
-#[derive(Drop)]
-pub struct Shelf {
-    entries: Vec<Entry>,
-}
-
 impl Kinded {
     /// The tables that the next words say, behind their kind.
-    fn read<'a>(heap: Global, words: &mut Words<'a>) -> Result<Kinded, Trouble<'a>> {
-        let kind = word(words)?;
+    fn read<'a>(words: &mut Words<'a>) -> Result<Kinded, Trouble<'a>> {
+        let kind = words.word()?;
         match kind {
-            "keywords" => Ok(Kinded::Keywords(Tables::read(heap, words)?)),
-            "coverage" => Ok(Kinded::Coverage(Tables::read(heap, words)?)),
-            "book" => Ok(Kinded::Book(Tables::read(heap, words)?)),
+            "keywords" => Ok(Kinded::Keywords(Tables::read(words)?)),
+            "coverage" => Ok(Kinded::Coverage(Tables::read(words)?)),
+            "book" => Ok(Kinded::Book(Tables::read(words)?)),
             _ => Err(Trouble::Unreadable(kind)),
+        }
+    }
+
+    /// The answer to what is asked of the schema of the tables.
+    fn answer<A: Asked>(&self, asked: A) -> Result<Answer, Refusal> {
+        match self {
+            Kinded::Keywords(tables) => asked.answer(tables),
+            Kinded::Coverage(tables) => asked.answer(tables),
+            Kinded::Book(tables) => asked.answer(tables),
         }
     }
 }
 
-/// Whether the schema of the tables accepts the tree of the bytes.
-fn put<'a, D: Domain>(
-    tables: &Tables<D>,
-    tree: &[u8],
-    levels: &mut [Level<Cursor>],
-) -> Result<Answer, Trouble<'a>> {
-    match api::check(&tables.schema(), tree, levels) {
-        Ok(truth) => Ok(Answer::Truth(truth)),
-        Err(refusal) => Err(Trouble::Refused(refusal)),
-    }
-}
-
-/// The states of the schema of the tables that accept a tree.
-fn alive<'a, D: Domain>(tables: &Tables<D>) -> Result<Answer, Trouble<'a>> {
-    match api::live(&tables.schema()) {
-        Ok(states) => Ok(Answer::States(states)),
-        Err(refusal) => Err(Trouble::Refused(refusal)),
-    }
+/// The schemas that the cases so far named, each the last of its name.
+#[derive(Drop)]
+pub struct Shelf {
+    schemas: BTreeMap<String, Kinded>,
 }
 
 impl Shelf {
     /// No schemas.
     pub fn new(heap: Global) -> Shelf {
         Shelf {
-            entries: Vec::new(heap),
+            schemas: BTreeMap::new(heap),
         }
-    }
-
-    /// The schema that was last given the name of the next word.
-    fn find<'a>(&self, words: &mut Words<'a>) -> Result<&Kinded, Trouble<'a>> {
-        let name = word(words)?;
-        for entry in self.entries.iter().rev() {
-            if entry.name.as_str() == name {
-                return Ok(&entry.tables);
-            }
-        }
-        Err(Trouble::Unreadable(name))
     }
 
     /// Puts a schema under its name. Whether its tables are sound is asked where it is used.
-    pub fn define<'a>(
-        &mut self,
-        heap: Global,
-        words: &mut Words<'a>,
-    ) -> Result<Answer, Trouble<'a>> {
-        let name = String::from_str(heap, word(words)?)?;
-        let tables = Kinded::read(heap, words)?;
-        end(words)?;
-        self.entries.push(Entry { name, tables })?;
+    pub fn define<'a>(&mut self, words: &mut Words<'a>) -> Result<Answer, Trouble<'a>> {
+        let name = String::from_str(words.heap, words.word()?)?;
+        let tables = Kinded::read(words)?;
+        words.end()?;
+        self.schemas.insert(name, tables)?;
         Ok(Answer::Read)
     }
 
-    /// Whether a schema accepts a tree, with so many levels for it.
-    pub fn check<'a>(&self, heap: Global, words: &mut Words<'a>) -> Result<Answer, Trouble<'a>> {
-        let tables = self.find(words)?;
-        let tree = bytes(heap, words)?;
-        let mut levels = levels(heap, number(words)? as usize)?;
-        end(words)?;
-        match tables {
-            Kinded::Keywords(tables) => put(tables, tree.as_slice(), levels.as_mut_slice()),
-            Kinded::Coverage(tables) => put(tables, tree.as_slice(), levels.as_mut_slice()),
-            Kinded::Book(tables) => put(tables, tree.as_slice(), levels.as_mut_slice()),
-        }
+    /// What the words behind a name ask of the schema that was last given the name.
+    pub fn ask<'a, A: Asked>(&self, words: &mut Words<'a>) -> Result<Answer, Trouble<'a>> {
+        let name = words.word()?;
+        let tables = self.schemas.get(name).ok_or(Trouble::Unreadable(name))?;
+        let asked = A::read(words)?;
+        words.end()?;
+        Ok(tables.answer(asked)?)
     }
+}
 
-    /// The states of a schema that accept a tree.
-    pub fn live<'a>(&self, words: &mut Words<'a>) -> Result<Answer, Trouble<'a>> {
-        let tables = self.find(words)?;
-        end(words)?;
-        match tables {
-            Kinded::Keywords(tables) => alive(tables),
-            Kinded::Coverage(tables) => alive(tables),
-            Kinded::Book(tables) => alive(tables),
-        }
-    }
+/// Whether a schema accepts a tree, with so many levels for it.
+#[derive(Drop)]
+pub struct Check {
+    tree: Vec<u8>,
+    levels: Vec<Level<Cursor>>,
+}
 
-    /// A schema trimmed to the symbols of a number, into three outputs of the lengths behind it.
-    pub fn trim<'a>(&self, heap: Global, words: &mut Words<'a>) -> Result<Answer, Trouble<'a>> {
-        let tables = self.find(words)?;
-        let permitted = number(words)?;
-        let outputs = trims::outputs(heap, words)?;
-        end(words)?;
-        Ok(match tables {
-            Kinded::Keywords(tables) => trims::put(tables, permitted, outputs),
-            Kinded::Coverage(tables) => trims::put(tables, permitted, outputs),
-            Kinded::Book(tables) => trims::put(tables, permitted, outputs),
+impl Asked for Check {
+    fn read<'a>(words: &mut Words<'a>) -> Result<Check, Trouble<'a>> {
+        let tree = words.bytes()?;
+        let count = words.number()? as usize;
+        Ok(Check {
+            tree,
+            levels: levels(words.heap, count)?,
         })
+    }
+
+    fn answer<D: Domain>(mut self, tables: &Tables<D>) -> Result<Answer, Refusal> {
+        let tree = self.tree.as_slice();
+        let levels = self.levels.as_mut_slice();
+        Ok(Answer::Truth(api::check(&tables.schema(), tree, levels)?))
+    }
+}
+
+/// Which states of a schema accept a tree.
+#[derive(Clone, Copy, Debug, PartialEq, Eq)]
+pub struct Live;
+
+impl Asked for Live {
+    fn read<'a>(_words: &mut Words<'a>) -> Result<Live, Trouble<'a>> {
+        Ok(Live)
+    }
+
+    fn answer<D: Domain>(self, tables: &Tables<D>) -> Result<Answer, Refusal> {
+        Ok(Answer::States(api::live(&tables.schema())?))
     }
 }

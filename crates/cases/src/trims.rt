@@ -1,31 +1,19 @@
-//! What a trimming comes to, with outputs that are filled beforehand, so that each byte that was written is seen.
+//! Cases on trimming: `trim NAME PERMITTED LENGTH LENGTH LENGTH`, with outputs that are filled beforehand, so that each byte that was
+//! written is seen.
 use crate::answer::Answer;
-use api::Domain;
+use crate::trees::Asked;
+use api::{Domain, Refusal};
 use notation::outputs::Outputs;
 use notation::schemas::Tables;
 use notation::trouble::Trouble;
-use notation::words::{Words, number};
-use std::alloc::Global;
+use notation::words::Words;
 
 /// What each output is filled with.
 const FILLING: u8 = 170;
 
-/// Filled outputs of the lengths that the next three words say.
-pub fn outputs<'a>(heap: Global, words: &mut Words<'a>) -> Result<Outputs, Trouble<'a>> {
-    let transitions = number(words)? as usize;
-    let states = number(words)? as usize;
-    let rows = number(words)? as usize;
-    Outputs::new(heap, transitions, states, rows, FILLING)
-}
-
 /// Whether nothing was written to an output.
 fn is_as_found(output: &[u8]) -> bool {
-    for byte in output {
-        if *byte != FILLING {
-            return false;
-        }
-    }
-    true
+    output.iter().all(|byte| *byte == FILLING)
 }
 
 /// Whether nothing was written to any of the outputs.
@@ -35,13 +23,34 @@ fn are_as_found(outputs: &Outputs) -> bool {
         && is_as_found(outputs.rows.as_slice())
 }
 
-/// The schema of the tables, trimmed to the permitted symbols.
-pub fn put<D: Domain>(tables: &Tables<D>, permitted: u32, mut outputs: Outputs) -> Answer {
-    match outputs.trim(&tables.schema(), permitted) {
-        Ok((states, rows)) => Answer::Trimmed(states, rows, outputs),
-        Err(refusal) => {
-            let untouched = are_as_found(&outputs);
-            Answer::Untrimmed(refusal, untouched)
-        }
+/// What a schema is, trimmed to the symbols of a number, into three outputs of the lengths behind it.
+#[derive(Debug, Drop, PartialEq, Eq)]
+pub struct Trim {
+    permitted: u32,
+    outputs: Outputs,
+}
+
+impl Asked for Trim {
+    fn read<'a>(words: &mut Words<'a>) -> Result<Trim, Trouble<'a>> {
+        let permitted = words.number()?;
+        let transitions = words.number()? as usize;
+        let states = words.number()? as usize;
+        let rows = words.number()? as usize;
+        let outputs = Outputs::new(words.heap, transitions, states, rows, FILLING)?;
+        Ok(Trim { permitted, outputs })
+    }
+
+    fn answer<D: Domain>(self, tables: &Tables<D>) -> Result<Answer, Refusal> {
+        let Trim {
+            permitted,
+            mut outputs,
+        } = self;
+        Ok(match outputs.trim(&tables.schema(), permitted) {
+            Ok(counts) => Answer::Trimmed(counts, outputs),
+            Err(refusal) => Answer::Untrimmed {
+                refusal,
+                as_found: are_as_found(&outputs),
+            },
+        })
     }
 }

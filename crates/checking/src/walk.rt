@@ -1,89 +1,65 @@
-//! The walk over a tree's items, with the schema's automaton alongside.
-ghost use Rattle.std.specs.Prelude.{◌≡◌, ℕ, Bool, ◌&&◌, List, length};
+//! The walk over a tree's items, with the schema's automaton alongside. Its answer so far is the state by which the node that comes next
+//! must be accepted, and none once something speaks against the tree: then only the bytes are still read, since their faults outweigh a no.
+ghost use Rattle.std.specs.Prelude.{◌≡◌, ◌<◌, ◌≤◌, ℕ, Bool, List, length, MatchResult};
+ghost use Rattle.refusal.specs.declared.fault.Fault.TheVariants as fault;
 ghost use Rattle.codec.specs.Reading.{read_tree, whole};
 ghost use Rattle.checking.specs.Checking.{verdict};
 ghost use Rattle.codec.specs.Piles.{topmost};
-ghost use Rattle.schema.specs.Tables.{tables, sets, automaton};
-ghost use Rattle.checking.specs.Steps.{may_end, StepsOn};
+ghost use Rattle.schema.specs.Tables.{tables, automaton, automaton_of};
+ghost use Rattle.checking.specs.Steps.{stays, may_end, StepsOn};
 
-use crate::cursor::{Answer, Cursor};
+use crate::cursor::Cursor;
 use codec::item::{Item, Level};
-use codec::pile::Pile;
 use codec::reader::Reader;
 use domain::domain::Domain;
 use refusal::fault::{Fault, Refusal};
 use schema::tested::Tested;
 
-/// Before the root: nothing speaks against the tree yet, and state 0 must accept it.
-const START: Answer = Answer {
-    accepted: true,
-    state: 0,
-};
+/// Before the root, which state 0 must accept.
+const START: Option<u8> = Some(0);
 
 /// A node's value: its state's domain must have it.
-fn open<D: Domain>(schema: &Tested<D>, answer: Answer, value: u32) -> Answer
-    ensures { result ≡ record { accepted = answer.accepted && (automaton (tables schema.now.measured.schema) (sets D.Domain.holds schema.now.measured.schema)).has answer.state value; state = answer.state } }
+fn open<D: Domain>(schema: &Tested<D>, answer: Option<u8>, value: u32) -> Option<u8>
+    ensures { result ≡ stays answer (λ q. (automaton_of D.Domain.holds schema.now.measured.schema).has q value) }
 {
-    Answer {
-        accepted: answer.accepted && schema.has(answer.state, value),
-        state: answer.state,
-    }
-}
-
-/// Whether the children of the node on top may end where they are.
-fn may_close<D>(schema: &Tested<D>, top: Option<Level<Cursor>>) -> bool
-    ensures { (ds : List (ℕ → Bool)) → result ≡ may_end (automaton (tables schema.now.measured.schema) ds) top }
-{
-    match top {
-        Some(level) => schema.may_end(level.at.state, level.at.row),
-        None => false,
-    }
+    let state = answer?;
+    schema.has(state, value).then_some(state)
 }
 
 /// A node's end: its children must be allowed to end there.
-fn close<D>(schema: &Tested<D>, answer: Answer, top: Option<Level<Cursor>>) -> Answer
-    ensures { (ds : List (ℕ → Bool)) → result ≡ record { accepted = answer.accepted && may_end (automaton (tables schema.now.measured.schema) ds) top; state = answer.state } }
+fn close<D>(schema: &Tested<D>, answer: Option<u8>, top: Option<Level<Cursor>>) -> Option<u8>
+    ensures { (ds : List (ℕ → Bool)) → result ≡ stays answer (λ q. may_end (automaton (tables schema.now.measured.schema) ds) top) }
 {
-    Answer {
-        accepted: answer.accepted & may_close(schema, top),
-        state: answer.state,
+    let state = answer?;
+    let at = top?.at;
+    schema.may_end(at.state, at.row).then_some(state)
+}
+
+/// A number as a symbol of the schema, or the fault that it is none.
+fn known<D>(schema: &Tested<D>, symbol: u32, place: usize) -> Result<u8, Refusal>
+    ensures { MatchResult result (λ a. (a ≡ symbol) × (symbol < schema.now.measured.schema.symbols)) (λ e. (schema.now.measured.schema.symbols ≤ symbol) × (e ≡ record { fault = fault.Symbol; place = place })) }
+{
+    match u8::try_from(symbol) {
+        Ok(symbol) if usize::from(symbol) < schema.symbols() => Ok(symbol),
+        _ => Err(Fault::Symbol.at(place)),
     }
 }
 
 /// A child's symbol: the node on top goes on at the next row, and the child must be accepted by the next state.
 fn name<D>(
     schema: &Tested<D>,
-    answer: Answer,
-    levels: &mut Pile<Level<Cursor>>,
+    answer: Option<u8>,
+    reader: &mut Reader<Cursor>,
     symbol: u8,
-) -> Answer
-    ensures steps { (ds : List (ℕ → Bool)) → StepsOn (automaton (tables schema.now.measured.schema) ds) symbol answer (topmost levels.old.slots.now levels.old.count) levels.old.slots.now levels.old.count result levels.new.slots.now }
-    ensures same { levels.new.count ≡ levels.old.count }
+) -> Option<u8>
+    ensures { (ds : List (ℕ → Bool)) → StepsOn (automaton (tables schema.now.measured.schema) ds) symbol answer (topmost reader.old.levels.entries) reader.old result reader.new }
 {
-    let no = Answer {
-        accepted: false,
-        state: answer.state,
-    };
-    let Some(level) = levels.top() else {
-        return no;
-    };
-    let Some(row) = schema.next_row(level.at.state, level.at.row, symbol) else {
-        return no;
-    };
-    let Some(state) = schema.next_state(level.at.state, symbol) else {
-        return no;
-    };
-    levels.replace(Level {
-        left: level.left,
-        at: Cursor {
-            state: level.at.state,
-            row,
-        },
-    });
-    Answer {
-        accepted: answer.accepted,
-        state,
-    }
+    answer?;
+    let at = reader.top()?.at;
+    let row = schema.next_row(at.state, at.row, symbol)?;
+    let state = schema.next_state(at.state, symbol)?;
+    reader.keep(Cursor { row, ..at });
+    Some(state)
 }
 
 /// One tree of the schema, read to its end and with nothing after it: accepted or not, or the fault of its bytes.
@@ -92,40 +68,32 @@ pub(crate) fn walk<D: Domain>(
     tree: &[u8],
     levels: &mut [Level<Cursor>],
 ) -> Result<bool, Refusal>
-    ensures { result ≡ verdict (automaton (tables schema.now.measured.schema) (sets D.Domain.holds schema.now.measured.schema)) (whole (length tree.now) schema.now.measured.schema.symbols (read_tree (length tree.now) schema.now.measured.schema.symbols (length levels.old) tree.now)) }
+    ensures { result ≡ verdict (automaton_of D.Domain.holds schema.now.measured.schema) (whole (length tree.now) schema.now.measured.schema.symbols (read_tree (length tree.now) schema.now.measured.schema.symbols (length levels.old) tree.now)) }
 {
-    let mut reader = Reader::new(tree);
-    let mut pile = Pile::new(levels);
+    let mut reader = Reader::new(tree, levels);
     let mut answer = START;
+    // A loop and no iterator: the place and the level on top are asked of the reader before each item, and an iterator would hold it.
     loop {
         let place = reader.place();
-        let top = pile.top();
+        let top = reader.top();
         let at = Cursor {
-            state: answer.state,
+            state: answer.unwrap_or(0),
             row: 0,
         };
-        let Some(item) = reader.next(&mut pile, at)? else {
+        let Some(item) = reader.next(at)? else {
             break;
         };
         answer = match item {
             Item::Value(value, _, _) => open(schema, answer, value),
             Item::Symbol(symbol, _) => {
-                if symbol as usize >= schema.symbols() {
-                    return Err(Refusal {
-                        fault: Fault::Symbol,
-                        place,
-                    });
-                }
-                name(schema, answer, &mut pile, symbol as u8)
+                let symbol = known(schema, symbol, place)?;
+                name(schema, answer, &mut reader, symbol)
             }
             Item::End => close(schema, answer, top),
         };
     }
     if reader.place() < tree.len() {
-        return Err(Refusal {
-            fault: Fault::Rest,
-            place: reader.place(),
-        });
+        return Err(Fault::Rest.at(reader.place()));
     }
-    Ok(answer.accepted)
+    Ok(answer.is_some())
 }

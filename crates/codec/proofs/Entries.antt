@@ -1,9 +1,13 @@
--- Entries of a list by their place, and of a pile. Assumes nothing.
-use Rattle.std.proofs.Common.{◌≡◌, ℕ, zero, suc, ◌+◌, ◌<◌, ◌≤◌, List, [], ◌∷◌, length, get_or, take, drop, Some, None, Option, sym, refl, ap, ◌∙◌, suc-add, arith, Bor}
-use Rattle.std.specs.Option.{option_map}
-use Rattle.std.specs.Slice.{IsGetResult}
-use Rattle.std.specs.List.{slice_get}
-use Rattle.std.proofs.lemmas.Option.{slice_get-get_or, slice_get_past}
+-- Entries of a list by their place. Assumes nothing.
+use Rattle.std.proofs.Common.{◌≡◌, ℕ, zero, suc, ◌+◌, ◌<◌, List, [], ◌∷◌, ◌++◌, length, get_or, take, drop, Some, None, Option, sym, refl, ap, ◌∙◌, ⊎_elim, get_or-drop, length-drop, arith, Bor}
+use Rattle.std.specs.Option.{option_map, unwrap_or}
+use Rattle.std.specs.Slice.{IsGetResult, IsGetRangeResult}
+use Rattle.std.specs.List.{slice_get, slice_range}
+use Rattle.std.proofs.Math.ListN.{drop_of_length-le}
+use Rattle.std.proofs.Math.Seq.{drop-length}
+use Rattle.std.proofs.lemmas.List.{append-nil, drop_more}
+use Rattle.std.proofs.lemmas.List.Folds.{drop_split}
+use Rattle.std.proofs.lemmas.Option.{slice_get-get_or, slice_get_past, slice_get_within, get_or_from_slice_get}
 
 -- what `get` finds, as a value
 pub nth_from_get : {X : Type 0} (xs : List X) (i : ℕ) (r : Option (Bor X)) → IsGetResult xs i i r → option_map (λ x. x.now) r ≡ slice_get xs i
@@ -21,20 +25,9 @@ nth_take (suc n) [] i h = refl
 nth_take (suc n) (x ∷ xs) zero h = refl
 nth_take (suc n) (x ∷ xs) (suc i) h = nth_take n xs i (omega arith)
 
-pub nth_take_past : {X : Type 0} (n : ℕ) (xs : List X) (i : ℕ) → n ≤ i → slice_get (take n xs) i ≡ None
-nth_take_past zero xs i h = refl
-nth_take_past (suc n) [] i h = refl
-nth_take_past (suc n) (x ∷ xs) zero h = absurd (omega arith)
-nth_take_past (suc n) (x ∷ xs) (suc i) h = nth_take_past n xs i (omega arith)
-
-some_same : {X : Type 0} {a b : X} → ◌≡◌ {A = Option X} (Some a) (Some b) → a ≡ b
-some_same e = cc
-
 -- what is left of a list from an entry on
 pub drop_some : {X : Type 0} (xs : List X) (i : ℕ) (x : X) → slice_get xs i ≡ Some x → drop i xs ≡ x ∷ drop (i + 1) xs
-drop_some [] i x e = absurd (let z : ◌≡◌ {A = ℕ} 0 1 = cc in omega arith)
-drop_some (y ∷ xs) zero x e = ap (λ z. z ∷ xs) (some_same e)
-drop_some (y ∷ xs) (suc i) x e = drop_some xs i x e ∙ ap (λ (n : ℕ). x ∷ drop n (y ∷ xs)) (sym (suc-add i 1))
+drop_some xs i x e = drop_more xs i x (slice_get_within xs i x e) ∙ ap (λ y. y ∷ drop (i + 1) xs) (get_or_from_slice_get xs i x x e)
 
 pub drop_none : {X : Type 0} (xs : List X) (i : ℕ) → slice_get xs i ≡ None → drop i xs ≡ []
 drop_none [] zero e = refl
@@ -42,11 +35,15 @@ drop_none [] (suc i) e = refl
 drop_none (y ∷ xs) zero e = absurd (let z : ◌≡◌ {A = ℕ} 0 1 = cc in omega arith)
 drop_none (y ∷ xs) (suc i) e = drop_none xs i e
 
--- an entry lies inside the list
-pub inside_some : {X : Type 0} (xs : List X) (i : ℕ) (x : X) → slice_get xs i ≡ Some x → i < length xs
-inside_some [] i x e = absurd (let z : ◌≡◌ {A = ℕ} 0 1 = cc in omega arith)
-inside_some (y ∷ xs) zero x e = omega arith
-inside_some (y ∷ xs) (suc i) x e = omega (arith, inside_some xs i x e)
+-- what is left of a list from a place on, nothing past its end
+pub rest_from_get : {X : Type 0} (xs : List X) (p : ℕ) (r : Option (Bor (List X))) (none : Bor (List X)) → none.now ≡ [] → IsGetRangeResult xs p (length xs) r → (unwrap_or r none).now ≡ drop p xs
+rest_from_get xs p (Some x) none e found =
+    found.0.2 ∙ sym (drop_split xs p (length xs) found.0.0 ∙ ap (λ l. slice_range xs p (length xs) ++ l) (drop-length xs) ∙ append-nil (slice_range xs p (length xs)))
+rest_from_get xs p None none e found =
+    e ∙ sym (drop_of_length-le xs (⊎_elim (λ h. omega arith) (λ h. absurd (omega (arith, h))) found.0))
 
-pub get_d_some : {X : Type 0} (xs : List X) (i : ℕ) (x d : X) → slice_get xs i ≡ Some x → get_or xs i d ≡ x
-get_d_some xs i x d e = let h = inside_some xs i x e in some_same (sym (slice_get-get_or xs i d h) ∙ e)
+-- an entry of what is left of a list, as one of the list
+pub entry_of_rest : (xs rest : List ℕ) (p i : ℕ) → rest ≡ drop p xs → i < length rest → slice_get xs (p + i) ≡ Some (get_or rest i 0)
+entry_of_rest xs rest p i is inside =
+    slice_get-get_or xs (p + i) 0 (omega (arith, ap length is, length-drop p xs, inside))
+    ∙ ap Some (sym (ap (λ (l : List ℕ). get_or l i 0) is ∙ get_or-drop p xs i 0))

@@ -1,4 +1,5 @@
 pub mod Entries
+pub mod Slots
 pub mod Groups
 pub mod Spelling
 pub mod Writing

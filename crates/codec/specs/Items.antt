@@ -1,12 +1,12 @@
 -- What a reader hands out: a value with its child count, a symbol, or a node's end. Assumes nothing.
-use Rattle.std.specs.Prelude.{◌≡◌, ℕ, ◌-◌, ◌<◌, ◌≤◌, Bool, true, false, ◌⊎◌, List, [], ◌∷◌, ◌++◌, length, drop, Some, None, Ok, Err, Option, Result}
+use Rattle.std.specs.Prelude.{◌≡◌, ℕ, ◌-◌, ◌<◌, ◌≤◌, Bool, true, false, ◌⊎◌, List, [], ◌∷◌, ◌++◌, length, Some, None, Ok, Err, Option, Result}
 use Rattle.refusal.specs.declared.fault.Fault.TheVariants as fault
 use Rattle.refusal.specs.declared.fault.Refusal.{Refusal}
 use Rattle.codec.specs.declared.item.Item.{Item}
 use Rattle.codec.specs.declared.item.Item.TheVariants.{Value, Symbol, End}
 use Rattle.codec.specs.declared.item.Level.{Level}
 use Rattle.codec.specs.Numbers.{Got, got, stop, read_number}
-use Rattle.codec.specs.Piles.{entries}
+use Rattle.codec.specs.Piles.{Stack, slots, topmost, Replaced}
 use Rattle.codec.specs.Reading.{then}
 
 -- a reader on its way: the bytes left, whether a node comes next, and the levels of the nodes it is in, the root's first
@@ -81,8 +81,35 @@ module _ {S : Type 0} (end room : ℕ) (at : S) where
   Hands b (Ok None) a = Over b a
   Hands b (Err e) a = (NodeFault b e ⊎ SymbolFault b e) × (a ≡ b)
 
--- one step of a reader over the input with its levels in the slots of a pile; the input stays, and so does the number of slots
-pub record Walks {S : Type 0} (at : S) (input : List ℕ) (place : ℕ) (fresh : Bool) (slots : List (Level S)) (count : ℕ) (r : Result (Option Item) Refusal) (input' : List ℕ) (place' : ℕ) (fresh' : Bool) (slots' : List (Level S)) (count' : ℕ) : Type 0 where
-  pub hands : Hands (length input) (length slots) at (record { left = drop place input; fresh = fresh; levels = entries slots count }) r (record { left = drop place' input; fresh = fresh'; levels = entries slots' count' })
-  pub same_input : input' ≡ input
-  pub same_room : length slots' ≡ length slots
+-- a reader: the bytes read and those left, whether a node comes next, and the pile of the levels of the nodes it is in
+pub record Progress (S : Type 0) : Type 0 where
+  pub read : List ℕ
+  pub left : List ℕ
+  pub fresh : Bool
+  pub levels : Stack (Level S)
+
+-- all bytes of its input
+abbrev pub input : {S : Type 0} → Progress S → List ℕ
+input p = p.read ++ p.left
+
+-- where it is, by what is left to do
+abbrev pub midway : {S : Type 0} → Progress S → Midway S
+midway p = record { left = p.left; fresh = p.fresh; levels = p.levels.entries }
+
+-- one step of a reader; the input stays, and so does the number of levels that there are room for
+pub record Walks {S : Type 0} (at : S) (before : Progress S) (r : Result (Option Item) Refusal) (after : Progress S) : Type 0 where
+  pub hands : Hands (length (input before)) (slots before.levels) at (midway before) r (midway after)
+  pub same_input : input after ≡ input before
+  pub same_room : slots after.levels ≡ slots before.levels
+
+-- what is kept beside the children of the node on top changes, where there is one
+abbrev pub kept : {S : Type 0} → S → Option (Level S) → Stack (Level S) → Stack (Level S) → Type 0
+kept at (Some top) before after = Replaced before (record { left = top.left; at = at }) after
+kept at None before after = after ≡ before
+
+-- that and nothing else changes
+pub record Keeps {S : Type 0} (at : S) (before after : Progress S) : Type 0 where
+  pub levels : kept at (topmost before.levels.entries) before.levels after.levels
+  pub read : after.read ≡ before.read
+  pub left : after.left ≡ before.left
+  pub fresh : after.fresh ≡ before.fresh

@@ -4,10 +4,7 @@ ghost use Rattle.codec.specs.Numbers.{number_bytes, wrong_at, Reads, Writes};
 
 use refusal::fault::{Fault, Refusal};
 
-/// The most groups that a number of 32 bits has.
-const GROUPS: usize = 5;
-
-/// The index of the last of that many.
+/// The index of the last group of a number of 32 bits that has as many as it can.
 const LAST_GROUP: usize = 4;
 
 /// The largest last group of a number of five: four bits are left for it.
@@ -17,28 +14,18 @@ const LARGEST_FIFTH: u8 = 15;
 pub fn read_number(input: &[u8], place: usize) -> Result<(u32, usize), Refusal>
     ensures { Reads input.now place result }
 {
+    let rest = input.get(place..).unwrap_or(&[]);
     let mut value: u32 = 0;
-    let mut at = place;
-    for group in 0..GROUPS {
-        let Some(byte) = input.get(at).copied() else {
-            return Err(Refusal {
-                fault: Fault::Short,
-                place: input.len(),
-            });
-        };
-        at += 1;
-        if is_wrong(group, byte) {
-            return Err(Refusal {
-                fault: Fault::Number,
-                place,
-            });
+    for (group, byte) in rest.iter().enumerate() {
+        if is_wrong(group, *byte) {
+            return Err(Fault::Number.at(place));
         }
-        value += u32::from(byte % 128) << (7 * group);
-        if byte < 128 {
-            return Ok((value, at));
+        value += u32::from(*byte % 128) << (7 * group);
+        if *byte < 128 {
+            return Ok((value, place + group + 1));
         }
     }
-    unreachable()
+    Err(Fault::Short.at(input.len()))
 }
 
 /// Whether a byte can't be the group at an index: a fifth above 15, or a 0 after others.
@@ -69,11 +56,20 @@ pub fn write_number(output: &mut [u8], place: usize, value: u32) -> Option<usize
     if output.len() < length || output.len() - length < place {
         return None;
     }
+    spell(&mut output[place..place + length], value);
+    Some(place + length)
+}
+
+/// Writes the bytes of a number into as many slots.
+fn spell(slots: &mut [u8], value: u32)
+    requires { length slots.old ≡ length (number_bytes value) }
+    ensures { slots.new ≡ number_bytes value }
+{
     let mut rest = value;
-    for index in 0..length - 1 {
-        output[place + index] = (rest % 128) as u8 + 128;
+    for slot in slots.iter_mut() {
+        // the top bit says that another group follows
+        let follows: u8 = if rest < 128 { 0 } else { 128 };
+        *slot = (rest % 128) as u8 + follows;
         rest /= 128;
     }
-    output[place + length - 1] = rest as u8;
-    Some(place + length)
 }

@@ -1,42 +1,59 @@
 //! A pile over a slice that the caller lends: the entry put on last is the first one taken off.
-ghost use Rattle.std.specs.Prelude.{◌≡◌, ◌≤◌, length, nat_le};
+ghost use Rattle.std.specs.Prelude.{◌≡◌, ◌≤◌, [], length, take, drop, nat_le};
 ghost use Rattle.std.specs.List.{slice_get};
-ghost use Rattle.codec.specs.Piles.{entries, topmost, Pushed, Popped, Replaced};
+ghost use Rattle.codec.specs.Piles.{Stack, topmost, Pushed, Popped, Replaced};
+
+use std::marker::Model;
 
 /// Entries in the slots of a lent slice, from the first slot on, for any kind of entry.
+// The slots with their count beside them: the memory is lent by the caller.
 #[derive(Drop)]
 pub struct Pile<'a, T> {
     slots: &'a mut [T],
     count: usize,
-    ghost within: { count ≤ length slots.now },
+}
+
+impl<'a, T> Model for Pile<'a, T> {
+    ghost Value = { Stack T };
+
+    ghost view = { λ p. record { entries = take p.count p.slots.now; free = drop p.count p.slots.now } };
+
+    ghost invariant = { λ p. p.count ≤ length p.slots.now };
 }
 
 impl<'a, T: Copy> Pile<'a, T> {
     /// The empty pile over these slots.
     pub fn new(slots: &'a mut [T]) -> Pile<'a, T>
-        ensures empty { result.count ≡ 0 }
-        ensures over { result.slots.now ≡ slots.old }
+        ensures empty { result.entries ≡ [] }
+        ensures over { result.free ≡ slots.old }
     {
         Pile { slots, count: 0 }
     }
 
+    /// The entries, the bottom one first.
+    fn entries(&self) -> &[T]
+        ensures { result.now ≡ self.now.entries }
+    {
+        &self.slots[..self.count]
+    }
+
     /// How many entries there are.
     pub fn len(&self) -> usize
-        ensures { result ≡ self.now.count }
+        ensures { result ≡ length self.now.entries }
     {
         self.count
     }
 
     /// Whether no slot is left.
     pub fn is_full(&self) -> bool
-        ensures { result ≡ nat_le (length self.now.slots.now) self.now.count }
+        ensures { result ≡ nat_le (length self.now.free) 0 }
     {
         self.slots.len() <= self.count
     }
 
     /// Puts an entry on top, and says whether there was a slot for it.
     pub fn push(&mut self, entry: T) -> bool
-        ensures { Pushed self.old.slots.now self.old.count entry result self.new.slots.now self.new.count }
+        ensures { Pushed self.old entry result self.new }
     {
         if self.count >= self.slots.len() {
             return false;
@@ -48,34 +65,30 @@ impl<'a, T: Copy> Pile<'a, T> {
 
     /// The entry at an index, the bottom one at 0.
     pub fn read(&self, index: usize) -> Option<T>
-        ensures { result ≡ slice_get (entries self.now.slots.now self.now.count) index }
+        ensures { result ≡ slice_get self.now.entries index }
     {
-        if index < self.count {
-            self.slots.get(index).copied()
-        } else {
-            None
-        }
+        self.entries().get(index).copied()
     }
 
     /// The entry on top.
     pub fn top(&self) -> Option<T>
-        ensures { result ≡ topmost self.now.slots.now self.now.count }
+        ensures { result ≡ topmost self.now.entries }
     {
-        self.read(self.count.saturating_sub(1))
+        self.entries().last().copied()
     }
 
     /// Takes the top entry off.
     pub fn pop(&mut self) -> Option<T>
-        ensures { Popped self.old.slots.now self.old.count result self.new.slots.now self.new.count }
+        ensures { Popped self.old result self.new }
     {
-        let entry = self.top();
-        self.count = self.count.saturating_sub(1);
-        entry
+        let entry = self.top()?;
+        self.count -= 1;
+        Some(entry)
     }
 
     /// Writes over the top entry, where there is one.
     pub fn replace(&mut self, entry: T)
-        ensures { Replaced self.old.slots.now self.old.count entry self.new.slots.now self.new.count }
+        ensures { Replaced self.old entry self.new }
     {
         if self.count > 0 {
             self.slots[self.count - 1] = entry;

@@ -1,96 +1,113 @@
 //! The reader: walks over the bytes of one tree and hands out its items. It knows no schema.
-ghost use Rattle.std.specs.Prelude.{◌≡◌, ◌≤◌, true, false, length};
-ghost use Rattle.codec.specs.Items.{Walks};
+ghost use Rattle.std.specs.Prelude.{◌≡◌, ◌≤◌, true, false, [], length, take, drop};
+ghost use Rattle.codec.specs.Items.{Progress, Walks, Keeps};
+ghost use Rattle.codec.specs.Piles.{topmost};
 
 use crate::item::{Item, Level};
 use crate::number::read_number;
 use crate::pile::Pile;
 use refusal::fault::{Fault, Refusal};
+use std::marker::Model;
 
-/// A place in the input, and whether a node comes next there.
+/// A place in the input, whether a node comes next there, and the levels of the nodes that it is in.
+// A mark, and no type for each of the two: one reader is asked for one item after the other, whichever it is.
 #[derive(Drop)]
-pub struct Reader<'i> {
+pub struct Reader<'i, 'p, S> {
     input: &'i [u8],
     place: usize,
     fresh: bool,
-    ghost within: { place ≤ length input.now },
+    levels: Pile<'p, Level<S>>,
 }
 
-impl<'i> Reader<'i> {
-    /// A reader at the input's first byte, where the root comes next.
-    pub fn new(input: &'i [u8]) -> Reader<'i>
-        ensures { (result.input.now ≡ input.now) × (result.place ≡ 0) × (result.fresh ≡ true) }
+impl<'i, 'p, S> Model for Reader<'i, 'p, S> {
+    ghost Value = { Progress S };
+
+    ghost view = { λ r. record { read = take r.place r.input.now; left = drop r.place r.input.now; fresh = r.fresh; levels = r.levels } };
+
+    ghost invariant = { λ r. r.place ≤ length r.input.now };
+}
+
+impl<'i, 'p, S: Copy> Reader<'i, 'p, S> {
+    /// A reader at the input's first byte, where the root comes next. Each node takes one of the levels while the reader is in it.
+    pub fn new(input: &'i [u8], levels: &'p mut [Level<S>]) -> Reader<'i, 'p, S>
+        ensures { result ≡ record { read = []; left = input.now; fresh = true; levels = record { entries = []; free = levels.old } } }
     {
         Reader {
             input,
             place: 0,
             fresh: true,
+            levels: Pile::new(levels),
         }
     }
 
     /// The place of the first byte that was not read yet.
     pub fn place(&self) -> usize
-        ensures { result ≡ self.now.place }
+        ensures { result ≡ length self.now.read }
     {
         self.place
     }
 
+    /// The level of the innermost node that the reader is in.
+    pub fn top(&self) -> Option<Level<S>>
+        ensures { result ≡ topmost self.now.levels.entries }
+    {
+        self.levels.top()
+    }
+
+    /// Keeps something else at the innermost node that the reader is in.
+    pub fn keep(&mut self, at: S)
+        ensures { Keeps at self.old self.new }
+    {
+        if let Some(level) = self.levels.top() {
+            self.levels.replace(Level { at, ..level });
+        }
+    }
+
     /// The next item, or none after the root's end; or the fault that reading stops at. A node that opens takes a level, with `at` in it.
-    pub fn next<S: Copy>(
-        &mut self,
-        levels: &mut Pile<Level<S>>,
-        at: S,
-    ) -> Result<Option<Item<'i>>, Refusal>
-        ensures { Walks at self.old.input.now self.old.place self.old.fresh levels.old.slots.now levels.old.count result self.new.input.now self.new.place self.new.fresh levels.new.slots.now levels.new.count }
+    pub fn next(&mut self, at: S) -> Result<Option<Item<'i>>, Refusal>
+        ensures { Walks at self.old result self.new }
     {
         if self.fresh {
-            self.open(levels, at)
+            self.open(at)
         } else {
-            self.go_on(levels)
+            self.go_on()
         }
     }
 
     /// The value and child count of the node that comes next.
-    fn open<S: Copy>(
-        &mut self,
-        levels: &mut Pile<Level<S>>,
-        at: S,
-    ) -> Result<Option<Item<'i>>, Refusal>
+    fn open(&mut self, at: S) -> Result<Option<Item<'i>>, Refusal>
         requires { self.old.fresh ≡ true }
-        ensures { Walks at self.old.input.now self.old.place self.old.fresh levels.old.slots.now levels.old.count result self.new.input.now self.new.place self.new.fresh levels.new.slots.now levels.new.count }
+        ensures { Walks at self.old result self.new }
     {
-        if levels.is_full() {
-            return Err(Refusal {
-                fault: Fault::Deep,
-                place: self.place,
-            });
+        if self.levels.is_full() {
+            return Err(Fault::Deep.at(self.place));
         }
         let (value, middle) = read_number(self.input, self.place)?;
         let (count, end) = read_number(self.input, middle)?;
         let bytes = &self.input[self.place..end];
-        levels.push(Level { left: count, at });
+        self.levels.push(Level { left: count, at });
         self.place = end;
         self.fresh = false;
         Ok(Some(Item::Value(value, count, bytes)))
     }
 
     /// The symbol of the top node's next child, or its end.
-    fn go_on<S: Copy>(&mut self, levels: &mut Pile<Level<S>>) -> Result<Option<Item<'i>>, Refusal>
+    fn go_on(&mut self) -> Result<Option<Item<'i>>, Refusal>
         requires { self.old.fresh ≡ false }
-        ensures { (at : S) → Walks at self.old.input.now self.old.place self.old.fresh levels.old.slots.now levels.old.count result self.new.input.now self.new.place self.new.fresh levels.new.slots.now levels.new.count }
+        ensures { (at : S) → Walks at self.old result self.new }
     {
-        let Some(level) = levels.top() else {
+        let Some(level) = self.levels.top() else {
             return Ok(None);
         };
         if level.left == 0 {
-            levels.pop();
+            self.levels.pop();
             return Ok(Some(Item::End));
         }
         let (symbol, end) = read_number(self.input, self.place)?;
         let bytes = &self.input[self.place..end];
-        levels.replace(Level {
+        self.levels.replace(Level {
             left: level.left - 1,
-            at: level.at,
+            ..level
         });
         self.place = end;
         self.fresh = true;

@@ -8,14 +8,13 @@ use Rattle.codec.specs.Numbers.{overwritten}
 use Rattle.codec.proofs.Writing.{over_none, over_set}
 use Rattle.refusal.specs.declared.fault.Refusal.{Refusal}
 use Rattle.refusal.specs.Order.{first_of}
-use Rattle.search.proofs.Places.{some_same, none_some, nth_inside}
+use Rattle.search.proofs.Places.{nth_inside}
+use Rattle.std.proofs.lemmas.Option.{none-some, same_Some}
 use Rattle.compare.specs.declared.area.Area.{Area}
-use Rattle.compare.specs.declared.event.Event.TheVariants.{Write}
 use Rattle.compare.specs.declared.pairs.Listed.{Listed}
-use Rattle.compare.specs.Concluding.{claim_refusal}
 use Rattle.compare.specs.Listing.{entries_of}
 use Rattle.compare.specs.Trailing.{Traced, Trail, OneTrail, EveryTrail, TrailWritten, led_to, with_parent_before, broken_index}
-use Rattle.compare.specs.Work.{Work, said}
+use Rattle.compare.specs.Work.{said}
 use Rattle.compare.proofs.Views.{entries_fit}
 
 -- symbols traced back from an entry are all there are
@@ -24,7 +23,7 @@ traced_one es i [] [] s t = refl
 traced_one es i [] (b ∷ w) s t = absurd (omega (arith, s, t.3))
 traced_one es i (a ∷ v) [] s t = absurd (omega (arith, t, s.3))
 traced_one es i (a ∷ v) (b ∷ w) s t =
-    let same : s.0 ≡ t.0 = some_same (sym s.1 ∙ t.1) in
+    let same : s.0 ≡ t.0 = same_Some _ _ (sym s.1 ∙ t.1) in
     let symbol : a ≡ b = sym s.2 ∙ ap {B = ℕ} (λ (e : Listed). e.symbol) same ∙ t.2 in
     let rest : v ≡ w = traced_one es t.0.parent v w (subst (λ (e : Listed). Traced es e.parent v) same s.4) t.4 in
     ap (λ (c : ℕ). c ∷ v) symbol ∙ ap (λ (l : List ℕ). b ∷ l) rest
@@ -68,12 +67,12 @@ module _ (es : List Listed) (i : ℕ) where
   led_some e is = by (slice_get es i) refl is
     where
       by : (o : Option Listed) → slice_get es i ≡ o → with_parent_before o i ≡ Some e → (slice_get es i ≡ Some e) × (e.parent < i)
-      by None at is = absurd (none_some is)
+      by None at is = absurd (none-some _ is)
       by (Some f) at is = inner (ltb f.parent i) refl is
         where
           inner : (t : Bool) → ltb f.parent i ≡ t → cond t (Some f) None ≡ Some e → (slice_get es i ≡ Some e) × (e.parent < i)
-          inner true low is = (at ∙ is, subst (λ (x : Listed). x.parent < i) (some_same is) (ltb-true f.parent i low))
-          inner false low is = absurd (none_some is)
+          inner true low is = (at ∙ is, subst (λ (x : Listed). x.parent < i) (same_Some _ _ is) (ltb-true f.parent i low))
+          inner false low is = absurd (none-some _ is)
 
   -- an entry with a trail that is not empty
   led_traced : (a : ℕ) (w : List ℕ) (t : Traced es i (a ∷ w)) → led_to es i ≡ Some t.0
@@ -85,7 +84,7 @@ module _ (es : List Listed) (i : ℕ) where
     where
       by : (v : List ℕ) → Traced es i v → v ≡ []
       by [] s = refl
-      by (a ∷ v) s = absurd (none_some (sym none ∙ led_traced a v s))
+      by (a ∷ v) s = absurd (none-some _ (sym none ∙ led_traced a v s))
 
   -- else it is the parent's with the entry's symbol behind
   pub trail_parent : (e : Listed) → led_to es i ≡ Some e → (w : List ℕ) → Trail es i w → (v : List ℕ) × Trail es e.parent v × (w ≡ v ++ e.symbol ∷ [])
@@ -94,7 +93,7 @@ module _ (es : List Listed) (i : ℕ) where
       by : (u : List ℕ) → reverse w ≡ u → Traced es i u → (v : List ℕ) × Trail es e.parent v × (w ≡ v ++ e.symbol ∷ [])
       by [] same s = absurd (omega (arith, s, (led_some e is).1))
       by (a ∷ u) same s =
-          let entry : s.0 ≡ e = some_same (sym (led_traced a u s) ∙ is) in
+          let entry : s.0 ≡ e = same_Some _ _ (sym (led_traced a u s) ∙ is) in
           let symbol : a ≡ e.symbol = sym s.2 ∙ ap {B = ℕ} (λ (x : Listed). x.symbol) entry in
           let below : Traced es e.parent u = subst (λ (x : Listed). Traced es x.parent u) entry s.4 in
           (reverse u, subst (Traced es e.parent) (sym (reverse-reverse u)) below, sym (reverse-reverse w) ∙ ap reverse same ∙ reverse-cons a u ∙ ap (λ (c : ℕ). reverse u ++ c ∷ []) symbol)
@@ -123,10 +122,6 @@ module _ (es : List Listed) (i : ℕ) where
             ∙ over_set before 0 v.0 e.symbol (omega (arith, long, room)) ∙ ap (overwritten before 0) (sym v.2),
       )
 
--- of two tests the first finds something
-pub found_first : (o p : Option Refusal) (e : Refusal) → o ≡ Some e → first_of (o ∷ p ∷ []) ≡ Some e
-found_first o p e is = ap (λ (q : Option Refusal). first_of (q ∷ p ∷ [])) is
-
 -- of two tests the first finds nothing
 pub found_next : (o p q : Option Refusal) → o ≡ None → p ≡ q → first_of (o ∷ p ∷ []) ≡ q
 found_next o p q none is = ap (λ (r : Option Refusal). first_of (r ∷ p ∷ [])) none ∙ by p ∙ is
@@ -134,7 +129,3 @@ found_next o p q none is = ap (λ (r : Option Refusal). first_of (r ∷ p ∷ []
     by : (r : Option Refusal) → first_of (r ∷ []) ≡ r
     by (Some e) = refl
     by None = refl
-
--- what is refused of a claim, where its numbers are told
-pub refused_told : (s : Work) (number serial n m : ℕ) (o : Option Refusal) → o ≡ claim_refusal s n m Write → n ≡ number → m ≡ serial → claim_refusal s number serial Write ≡ o
-refused_told s number serial n m o is same_number same-serial = sym (is ∙ ap (λ (k : ℕ). claim_refusal s k m Write) same_number ∙ ap (λ (k : ℕ). claim_refusal s number k Write) same-serial)

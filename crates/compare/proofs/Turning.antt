@@ -18,9 +18,6 @@ runs_where_examined phase.Running is = refl
 runs_where_examined (phase.Ready v) is = absurd (let z : ◌≡◌ {A = ℕ} 0 1 = cc in omega arith)
 runs_where_examined (phase.Apart k) is = absurd (let z : ◌≡◌ {A = ℕ} 0 1 = cc in omega arith)
 
-pub examined_where_runs : (p : Phase) → p ≡ phase.Running → decided p Step ≡ decision.Examine
-examined_where_runs p runs = ap (λ (q : Phase). decided q Step) runs
-
 module _ (A B : Automaton) where
   -- the noted counts stay
   counts_stay : (w w' : Work) → Turn A B w w' → (w'.symbols ≡ w.symbols) × (w'.firsts ≡ w.firsts) × (w'.seconds ≡ w.seconds)

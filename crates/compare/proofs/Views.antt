@@ -1,13 +1,15 @@
 -- What the two counts and the listed entries say of a list of pairs: all else. Assumes nothing.
-use Rattle.std.proofs.Common.{◌≡◌, ℕ, zero, suc, ◌+◌, ◌*◌, ◌/◌, ◌%◌, ◌^◌, ◌<◌, ◌≤◌, Bool, true, false, ◌&&◌, ◌||◌, eqb, ltb, List, [], ◌∷◌, ◌++◌, length, get_or, take, set, Some, sym, refl, ap, ◌∙◌, subst, ⊎_elim, mod-eq_of_lt, mul_comm, one-add, arith}
+use Rattle.std.proofs.Common.{◌≡◌, ℕ, ◌+◌, ◌/◌, ◌%◌, ◌^◌, ◌<◌, ◌≤◌, true, false, ◌&&◌, ◌||◌, eqb, ltb, List, [], ◌∷◌, ◌++◌, length, get_or, take, set, Some, sym, ap, ◌∙◌, subst, ⊎_elim, mul_comm, arith}
 use mathlib.Core.Bool.{Bool-set}
 use mathlib.Core.HLevel.{is_prop→PathP}
 use Rattle.std.specs.List.{slice_get}
-use Rattle.std.proofs.lemmas.Nat.{mod_below, mod-pow-add}
+use Rattle.std.proofs.lemmas.Nat.{mod_below}
+use Rattle.std.proofs.lemmas.Nat.Bits.{same_from_bits_below}
+use Rattle.std.proofs.lemmas.Option.{slice_get_within, get_or_from_slice_get}
 use Rattle.std.proofs.lemmas.List.{ext_get_or, get_or-take}
-use Rattle.std.proofs.lemmas.Bool.{both_ways, cases_lt, cases_order, cond-true, cond-false, cond_both}
+use Rattle.std.proofs.lemmas.Bool.{both_ways, cases_lt, cases_order, cond-true, cond-false}
 use Rattle.std.proofs.lemmas.Bool.Decides.{nat_tests}
-use Rattle.codec.proofs.Entries.{nth_take, inside_some, get_d_some}
+use Rattle.codec.proofs.Entries.{nth_take}
 use Rattle.domain.specs.Kinds.{bit}
 use Rattle.compare.specs.declared.pairs.Listed.{Listed}
 use Rattle.compare.specs.declared.pairs.Pairs.{Pairs}
@@ -37,15 +39,15 @@ pub few_pairs : FewPairs
 few_pairs p = omega (arith, few_kept p.firsts p.seconds p.entries p.length p.bits (kept_of p), mul_comm p.firsts p.seconds)
 
 pub entries_fit : EntriesFit
-entries_fit p i e h = let low : i < p.length = omega (arith, inside_some (entries_of p) i e h, many_of p) in subst (Fits p.firsts p.seconds i) (get_d_some (entries_of p) i e blank h) ((kept_of p).fit i low)
+entries_fit p i e h = let low : i < p.length = omega (arith, slice_get_within (entries_of p) i e h, many_of p) in subst (Fits p.firsts p.seconds i) (get_or_from_slice_get (entries_of p) i e blank h) ((kept_of p).fit i low)
 
 -- an entry is not of the states of an earlier one
 apart : (p : Pairs) (i j : ℕ) (e f : Listed) → i < j → slice_get (entries_of p) i ≡ Some e → slice_get (entries_of p) j ≡ Some f → e.first ≡ f.first → e.second ≡ f.second → ⊥
 apart p i j e f earlier at_i at_j firsts_same seconds-same =
     let es = entries_of p in
     let there : listed (take j es) e.first e.second ≡ true = listed_nth (take j es) i e (nth_take j es i earlier ∙ at_i) in
-    let low : j < p.length = omega (arith, inside_some es j f at_j, many_of p) in
-    let once : listed (take j es) f.first f.second ≡ false = subst (λ (x : Listed). listed (take j es) x.first x.second ≡ false) (get_d_some es j f blank at_j) ((kept_of p).once j low) in
+    let low : j < p.length = omega (arith, slice_get_within es j f at_j, many_of p) in
+    let once : listed (take j es) f.first f.second ≡ false = subst (λ (x : Listed). listed (take j es) x.first x.second ≡ false) (get_or_from_slice_get es j f blank at_j) ((kept_of p).once j low) in
     both_ways (listed (take j es) f.first f.second) once (sym (ap (λ (a : ℕ). listed (take j es) a e.second) firsts_same ∙ ap (listed (take j es) f.first) seconds-same) ∙ there)
 
 pub listed_once : ListedOnce
@@ -67,8 +69,8 @@ module _ (p : Pairs) (e : Listed) where
   abbrev after : List Listed
   after = after_listing p.firsts p.seconds (entries_of p) e
 
-  at_end : (b : Bool) → fits p.firsts p.seconds p.length e ≡ b → fits p.firsts p.seconds (length (entries_of p)) e ≡ b
-  at_end b h = ap (λ (k : ℕ). fits p.firsts p.seconds k e) (many_of p) ∙ h
+  at_end : stands → fits p.firsts p.seconds (length (entries_of p)) e ≡ true
+  at_end h = ap (λ (k : ℕ). fits p.firsts p.seconds k e) (many_of p) ∙ h
 
   its_place : stands → Fits p.firsts p.seconds p.length e
   its_place h = fits_tells p.firsts p.seconds p.length e h
@@ -85,34 +87,18 @@ module _ (p : Pairs) (e : Listed) where
   pub kept_with : stands → new → (mask : ℕ) → mask < 2 ^ 64 → ((i : ℕ) → bit mask i ≡ (bit (get_or p.bits e.first 0) i || (ltb e.second 64 && eqb e.second i))) → kept_pairs p.firsts p.seconds (set p.entries p.length e) (p.length + 1) (set p.bits e.first mask) ≡ true
   kept_with h n = kept_more p.firsts p.seconds p.entries p.length p.bits (kept_of p) e (its_place h) n
 
-  -- a new pair that can stand there is put behind the others; any other leaves the list as it was
+  -- a new pair that can stand there is put behind the others
   pub after_new : stands → new → take (p.length + 1) (set p.entries p.length e) ≡ after
   after_new h n =
       pushed p.firsts p.seconds p.entries p.length p.bits (kept_of p) e (its_place h) n
-      ∙ sym (cond-true _ (with_pair (entries_of p) e) (entries_of p) (at_end true h) ∙ cond-false _ (entries_of p) (entries_of p ++ e ∷ []) n)
+      ∙ sym (cond-true _ (with_pair (entries_of p) e) (entries_of p) (at_end h) ∙ cond-false _ (entries_of p) (entries_of p ++ e ∷ []) n)
 
-  pub after_unfit : fits p.firsts p.seconds p.length e ≡ false → entries_of p ≡ after
-  after_unfit h = sym (cond-false _ (with_pair (entries_of p) e) (entries_of p) (at_end false h))
-
-  pub after_known : listed (entries_of p) e.first e.second ≡ true → entries_of p ≡ after
-  after_known h = cond_both (fits p.firsts p.seconds (length (entries_of p)) e) (with_pair (entries_of p) e) (entries_of p) (λ (es : List Listed). entries_of p ≡ es) (λ _. sym (cond-true _ (entries_of p) (entries_of p ++ e ∷ []) h)) (λ _. refl)
-
--- two numbers with the same lowest k bits
-same_low : (a b k : ℕ) → ((i : ℕ) → i < k → bit a i ≡ bit b i) → a % 2 ^ k ≡ b % 2 ^ k
-same_low a b zero same = omega (arith, mod_below a 1 (omega arith), mod_below b 1 (omega arith))
-same_low a b (suc k) same = split a ∙ ap (λ (d : ℕ). d * 2 ^ k + a % 2 ^ k) digits ∙ ap (λ (r : ℕ). b / 2 ^ k % 2 * 2 ^ k + r) (same_low a b k (λ i low. same i (omega arith))) ∙ sym (split b)
+-- two numbers with the same 64 bits
+same_bits : (a b : ℕ) → a < 2 ^ 64 → b < 2 ^ 64 → ((i : ℕ) → i < 64 → bit a i ≡ bit b i) → a ≡ b
+same_bits a b low low' same = same_from_bits_below 64 a b low low' (λ i inside. by (a / 2 ^ i % 2) (b / 2 ^ i % 2) (mod_below (a / 2 ^ i) 2 (omega arith)) (mod_below (b / 2 ^ i) 2 (omega arith)) (same i inside))
   where
-    split : (x : ℕ) → x % 2 ^ suc k ≡ x / 2 ^ k % 2 * 2 ^ k + x % 2 ^ k
-    split x = ap (λ (n : ℕ). x % 2 ^ n) (sym (one-add k)) ∙ mod-pow-add x 1 k
-
     by : (d e : ℕ) → d < 2 → e < 2 → eqb d 1 ≡ eqb e 1 → d ≡ e
     by d e low low' agrees = grind (arith, nat_tests)
-
-    digits : a / 2 ^ k % 2 ≡ b / 2 ^ k % 2
-    digits = by (a / 2 ^ k % 2) (b / 2 ^ k % 2) (mod_below (a / 2 ^ k) 2 (omega arith)) (mod_below (b / 2 ^ k) 2 (omega arith)) (same k (omega arith))
-
-same_bits : (a b : ℕ) → a < 2 ^ 64 → b < 2 ^ 64 → ((i : ℕ) → i < 64 → bit a i ≡ bit b i) → a ≡ b
-same_bits a b low low' same = sym (mod-eq_of_lt low) ∙ same_low a b 64 same ∙ mod-eq_of_lt low'
 
 module _ (p q : Pairs) (Listed-same : entries_of p ≡ entries_of q) where
   same_length : p.length ≡ q.length

@@ -3,7 +3,9 @@ use Rattle.std.specs.Prelude.{◌≡◌, ℕ, cond, [], ◌∷◌, Some, None, O
 use Rattle.refusal.specs.declared.fault.Refusal.{Refusal}
 use Rattle.refusal.specs.Order.{first_of}
 use Rattle.compare.specs.declared.area.Area.{Area}
-use Rattle.compare.specs.declared.claim.Claim.{Claim}
+use Rattle.compare.specs.declared.claim.Comparing.{Comparing}
+use Rattle.compare.specs.declared.claim.Holding.{Holding}
+use Rattle.compare.specs.declared.claim.Numbers.{Numbers}
 use Rattle.compare.specs.declared.conclude.Concluded.{Concluded}
 use Rattle.compare.specs.declared.conclude.Concluded.TheVariants.{Included, Apart}
 use Rattle.compare.specs.declared.event.Event.{Event}
@@ -13,26 +15,26 @@ use Rattle.compare.specs.declared.phase.Verdict.TheVariants as verdict
 use Rattle.compare.specs.Refusals.{of_another, not_held, phase_refuses}
 use Rattle.compare.specs.Work.{Work, said, free, in_phase, held_by}
 
--- the refusal of what a claim asks: it is of another area, it is not the holder's, or the phase refuses it
-abbrev pub claim_refusal : Work → ℕ → ℕ → Event → Option Refusal
-claim_refusal w number serial e = first_of (of_another w number ∷ not_held w serial ∷ phase_refuses w e ∷ [])
+-- the refusal of what the claim with these numbers asks: it is of another area, it is not the holder's, or the phase refuses it
+abbrev pub claim_refusal : Work → Numbers → Event → Option Refusal
+claim_refusal w n e = first_of (of_another w n.area ∷ not_held w n.serial ∷ phase_refuses w e ∷ [])
 
 -- what a conclusion says of the ready area, and leaves: included frees it, and apart turns it apart, with an apart claim; both tell how many
 -- pairs were examined
 abbrev pub Concludes : Work → Concluded → Work → Type 0
 Concludes w (Included n) w' = (w.phase ≡ phase.Ready verdict.Included) × (n ≡ w.examined) × (w' ≡ free w.number w.serial)
-Concludes w (Apart k n claim) w' = (w.phase ≡ phase.Ready (verdict.Apart k)) × (n ≡ w.examined) × (claim.number ≡ w.number) × (claim.serial ≡ w.serial) × (w' ≡ in_phase w (phase.Apart k))
+Concludes w (Apart k n claim) w' = (w.phase ≡ phase.Ready (verdict.Apart k)) × (n ≡ w.examined) × (claim.numbers.area ≡ w.number) × (claim.numbers.serial ≡ w.serial) × (w' ≡ in_phase w (phase.Apart k))
 
 -- the one outcome: a conclusion, or the first refusal, which hands back the claim and leaves the whole area as found
-abbrev pub Conclusion : Area → Claim → Result Concluded (Refusal × Claim) → Area → Type 0
-Conclusion a claim (Ok c) a' = (claim_refusal (said a) claim.number claim.serial Conclude ≡ None) × Concludes (said a) c (said a')
-Conclusion a claim (Err e) a' = (claim_refusal (said a) claim.number claim.serial Conclude ≡ Some e.0) × (e.1 ≡ claim) × (a' ≡ a)
+abbrev pub Conclusion : Area → Holding Comparing → Result Concluded (Refusal × Holding Comparing) → Area → Type 0
+Conclusion a claim (Ok c) a' = (claim_refusal (said a) claim.numbers Conclude ≡ None) × Concludes (said a) c (said a')
+Conclusion a claim (Err e) a' = (claim_refusal (said a) claim.numbers Conclude ≡ Some e.0) × (e.1 ≡ claim) × (a' ≡ a)
 
 -- giving up frees the area for the holder, and changes nothing for any other claim of the area
 abbrev pub GivesUp : Area → ℕ → ℕ → Area → Type 0
 GivesUp a serial n a' = cond (held_by (said a) serial) ((n ≡ 1) × (said a' ≡ free (said a).number (said a).serial)) ((n ≡ 0) × (a' ≡ a))
 
 -- the one outcome: 1 or 0, or `foreign`, which hands back the claim and leaves the whole area as found
-abbrev pub GivingUp : {C : Type 0} → Area → C → ℕ → ℕ → Result ℕ (Refusal × C) → Area → Type 0
-GivingUp a claim number serial (Ok n) a' = (of_another (said a) number ≡ None) × GivesUp a serial n a'
-GivingUp a claim number serial (Err e) a' = (of_another (said a) number ≡ Some e.0) × (e.1 ≡ claim) × (a' ≡ a)
+abbrev pub GivingUp : {S : Type 0} → Area → Holding S → Result ℕ (Refusal × Holding S) → Area → Type 0
+GivingUp a claim (Ok n) a' = (of_another (said a) claim.numbers.area ≡ None) × GivesUp a claim.numbers.serial n a'
+GivingUp a claim (Err e) a' = (of_another (said a) claim.numbers.area ≡ Some e.0) × (e.1 ≡ claim) × (a' ≡ a)

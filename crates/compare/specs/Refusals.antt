@@ -1,5 +1,5 @@
 -- The refusals of the area's calls, each as the test that finds it. Their place is the area's serial. Assumes nothing.
-use Rattle.std.specs.Prelude.{ℕ, Bool, cond, not, ◌&&◌, ◌||◌, Some, None, Option, ◌==◌, nat_lt}
+use Rattle.std.specs.Prelude.{ℕ, ◌≡◌, Bool, cond, not, ◌&&◌, ◌||◌, Some, None, Ok, Err, Option, Result, ⊤, ◌==◌, nat_lt}
 use Rattle.refusal.specs.declared.fault.Fault.{Fault}
 use Rattle.refusal.specs.declared.fault.Fault.TheVariants.{Symbols, Worn, Foreign, Ousted, Schemas, Steps, Scratch}
 use Rattle.refusal.specs.declared.fault.Refusal.{Refusal}
@@ -9,6 +9,11 @@ use Rattle.compare.specs.declared.event.Decision.TheVariants.{Begin, Examine, Re
 use Rattle.compare.specs.declared.event.Event.{Event}
 use Rattle.compare.specs.Phases.{decided}
 use Rattle.compare.specs.Work.{Work, held_by}
+
+-- the answer of a test: nothing where it finds no refusal, and the refusal where it finds one
+abbrev pub Refuses : Option Refusal → Result ⊤ Refusal → Type 0
+Refuses o (Ok done) = o ≡ None
+Refuses o (Err e) = o ≡ Some e
 
 -- a refusal with the area's serial as its place, where a test finds it
 abbrev pub where_found : Bool → Work → Fault → Option Refusal

@@ -8,6 +8,7 @@ use Rattle.schema.specs.Faults.{either_fault}
 use Rattle.schema.specs.Live.{LiveSymbol}
 use Rattle.schema.specs.Tables.{Tables, automaton}
 use Rattle.compare.specs.declared.area.Area.{Area}
+use Rattle.compare.specs.declared.claim.Numbers.{Numbers}
 use Rattle.compare.specs.declared.event.Event.TheVariants.{Step}
 use Rattle.compare.specs.declared.pairs.Listed.{Listed}
 use Rattle.compare.specs.declared.phase.Kind.{Kind}
@@ -20,12 +21,21 @@ use Rattle.compare.specs.Pairs.{with_pair}
 use Rattle.compare.specs.Refusals.{other_symbols, other_counts, wrong_steps, short_scratch}
 use Rattle.compare.specs.Work.{Work, said, in_phase}
 
--- the list with the pair of two next states, where both are there and the symbol is live; i is the place of the pair that led to it
+-- the pair of two next states, where both are there and the symbol is live; i is the place of the pair that led to it
+abbrev pub next_pair : ℕ → ℕ → Bool → Option ℕ → Option ℕ → Option Listed
+next_pair i a true (Some s) (Some u) = Some (record { first = s; second = u; parent = i; symbol = a })
+next_pair i a true (Some s) None = None
+next_pair i a true None o = None
+next_pair i a false o p = None
+
+-- the list with the pair that is there, if one is
+abbrev pub with_found : Option Listed → List Listed → List Listed
+with_found (Some e) es = with_pair es e
+with_found None es = es
+
+-- the list with the pair of two next states, where both are there and the symbol is live
 abbrev pub with_next : ℕ → ℕ → Bool → Option ℕ → Option ℕ → List Listed → List Listed
-with_next i a true (Some s) (Some u) es = with_pair es (record { first = s; second = u; parent = i; symbol = a })
-with_next i a true (Some s) None es = es
-with_next i a true None o es = es
-with_next i a false o p es = es
+with_next i a live s u es = with_found (next_pair i a live s u) es
 
 module _ (A B : Automaton) where
   -- the list with the pairs of next states of (p, q) under the live symbols below n, ascending; (p, q) is at place i
@@ -83,12 +93,12 @@ is_running (phase.Ready v) = false
 is_running (phase.Apart k) = false
 
 -- what keeps sound schemas from a step of the claim with these numbers, which asks for n pairs and lends so many slots
-abbrev pub step_kept_from : Work → Tables → Tables → ℕ → ℕ → ℕ → ℕ → Option Refusal
-step_kept_from w T U number serial n slots = first_of (other_symbols w T U ∷ claim_refusal w number serial Step ∷ other_counts w T U ∷ wrong_steps w n ∷ short_scratch slots ∷ [])
+abbrev pub step_kept_from : Work → Tables → Tables → Numbers → ℕ → ℕ → Option Refusal
+step_kept_from w T U claim n slots = first_of (other_symbols w T U ∷ claim_refusal w claim Step ∷ other_counts w T U ∷ wrong_steps w n ∷ short_scratch slots ∷ [])
 
 -- the refusal of a step, in the order of the tests
-abbrev pub step_refusal : Work → Tables → Tables → ℕ → ℕ → ℕ → ℕ → Option Refusal
-step_refusal w T U number serial n slots = first_of (either_fault T U ∷ step_kept_from w T U number serial n slots ∷ [])
+abbrev pub step_refusal : Work → Tables → Tables → Numbers → ℕ → ℕ → Option Refusal
+step_refusal w T U claim n slots = first_of (either_fault T U ∷ step_kept_from w T U claim n slots ∷ [])
 
 -- up to n pairs were examined: how many, and 1 where the verdict stands, else 0
 pub record StepsOn (A B : Automaton) (n : ℕ) (w : Work) (answer : ℕ × ℕ) (w' : Work) : Type 0 where
@@ -97,6 +107,6 @@ pub record StepsOn (A B : Automaton) (n : ℕ) (w : Work) (answer : ℕ × ℕ) 
   pub mark : answer.1 ≡ cond (is_running w'.phase) 0 1
 
 -- the one outcome: the pairs are examined, or the first refusal leaves the whole area as found
-abbrev pub Stepping : Tables → Tables → List (ℕ → Bool) → List (ℕ → Bool) → ℕ → ℕ → ℕ → ℕ → Area → Result (ℕ × ℕ) Refusal → Area → Type 0
-Stepping T U sets others number serial n slots a (Ok answer) a' = (step_refusal (said a) T U number serial n slots ≡ None) × StepsOn (automaton T sets) (automaton U others) n (said a) answer (said a')
-Stepping T U sets others number serial n slots a (Err e) a' = (step_refusal (said a) T U number serial n slots ≡ Some e) × (a' ≡ a)
+abbrev pub Stepping : Tables → Tables → List (ℕ → Bool) → List (ℕ → Bool) → Numbers → ℕ → ℕ → Area → Result (ℕ × ℕ) Refusal → Area → Type 0
+Stepping T U sets others claim n slots a (Ok answer) a' = (step_refusal (said a) T U claim n slots ≡ None) × StepsOn (automaton T sets) (automaton U others) n (said a) answer (said a')
+Stepping T U sets others claim n slots a (Err e) a' = (step_refusal (said a) T U claim n slots ≡ Some e) × (a' ≡ a)

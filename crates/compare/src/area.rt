@@ -1,19 +1,22 @@
 //! The work area: one comparison at a time, with the pairs that it has listed and how many of them are examined.
 ghost use Rattle.std.specs.Prelude.{◌≡◌, false, ◌==◌};
-ghost use Rattle.schema.specs.Tables.{tables};
+ghost use Rattle.domain.specs.Kinds.{bit};
 ghost use Rattle.compare.specs.Beginning.{«kept_from»};
 ghost use Rattle.compare.specs.Concluding.{claim_refusal};
-ghost use Rattle.compare.specs.Refusals.{phase_refuses};
+ghost use Rattle.compare.specs.Refusals.{Refuses, phase_refuses};
+ghost use Rattle.compare.specs.Schemas.{first_tables, second_tables};
 ghost use Rattle.compare.specs.Work.{said, free, begun};
 
-use crate::claim::Claim;
+use crate::claim::{Claim, Numbers};
+use crate::compared::Compared;
 use crate::event::{Decision, Event, decide};
 use crate::pairs::{Listed, Pairs};
 use crate::phase::{Phase, Verdict};
 use refusal::fault::{Fault, Refusal};
-use schema::tested::Tested;
+use schema::sets::has_member;
 
 /// A work area. What is said of it says all: nothing stays in it of an earlier comparison.
+// No model whose value is what is said: a refusal leaves the whole area as found, which contracts say of the area itself, so both would be written.
 #[derive(Drop)]
 pub struct Area {
     pub(crate) number: u32,
@@ -51,58 +54,54 @@ impl Area {
     pub(crate) fn refusal(&self, fault: Fault) -> Refusal
         ensures { result ≡ record { fault = fault; place = self.now.serial } }
     {
-        Refusal {
-            fault,
-            place: self.serial as usize,
-        }
+        fault.at(self.serial as usize)
     }
 
-    /// What the phase refuses of an event.
-    pub(crate) fn refuses(&self, event: Event) -> Option<Refusal>
-        ensures { result ≡ phase_refuses (said self.now) event }
+    /// Refuses what the phase refuses of an event.
+    pub(crate) fn permits(&self, event: Event) -> Result<(), Refusal>
+        ensures { Refuses (phase_refuses (said self.now) event) result }
     {
         match decide(self.phase, event) {
-            Decision::Refuse(fault) => Some(self.refusal(fault)),
+            Decision::Refuse(fault) => Err(self.refusal(fault)),
             Decision::Begin
             | Decision::Examine
             | Decision::Release
             | Decision::Part(_)
-            | Decision::Stay => None,
+            | Decision::Stay => Ok(()),
         }
     }
 
-    /// What keeps two tested schemas from being compared here: `symbols`, `busy` or `worn`.
-    pub(crate) fn keeps_from<D>(
+    /// Refuses what keeps two schemas from being compared here: `symbols`, `busy` or `worn`.
+    pub(crate) fn permits_start<D>(
         &self,
-        first: &Tested<D>,
-        second: &Tested<D>,
+        compared: &Compared<D>,
         event: Event,
-    ) -> Option<Refusal>
-        ensures { result ≡ kept_from (said self.now) (tables first.now.measured.schema) (tables second.now.measured.schema) event }
+    ) -> Result<(), Refusal>
+        ensures { Refuses (kept_from (said self.now) (first_tables compared.now) (second_tables compared.now) event) result }
     {
-        if first.symbols() != second.symbols() {
-            return Some(self.refusal(Fault::Symbols));
+        if !compared.has_same_symbols() {
+            return Err(self.refusal(Fault::Symbols));
         }
-        if let Some(refusal) = self.refuses(event) {
-            return Some(refusal);
-        }
+        self.permits(event)?;
         if self.serial == u32::MAX {
-            return Some(self.refusal(Fault::Worn));
+            return Err(self.refusal(Fault::Worn));
         }
-        None
+        Ok(())
     }
 
-    /// Begins a comparison of two tested schemas, the first one's state 0 being live or not. Nothing earlier stays.
-    pub(crate) fn start<D>(&mut self, first: &Tested<D>, second: &Tested<D>, live: bool)
+    /// Begins a comparison of two schemas. Nothing earlier stays.
+    pub(crate) fn start<D>(&mut self, compared: &Compared<D>)
         requires { (self.old.serial == 4294967295) ≡ false }
-        ensures { said self.new ≡ begun (said self.old) (tables first.now.measured.schema) (tables second.now.measured.schema) live }
+        ensures { said self.new ≡ begun (said self.old) (first_tables compared.now) (second_tables compared.now) (bit compared.now.live 0) }
     {
         self.serial += 1;
-        self.symbols = first.symbols() as u8;
+        self.symbols = compared.first.symbols() as u8;
         self.examined = 0;
-        self.pairs
-            .begin(first.states() as u8, second.states() as u8);
-        if live {
+        self.pairs.begin(
+            compared.first.states() as u8,
+            compared.second.states() as u8,
+        );
+        if has_member(compared.live, 0) {
             self.pairs.list(START);
             self.phase = Phase::Running;
         } else {
@@ -112,22 +111,25 @@ impl Area {
 
     /// The claim that holds the area.
     pub(crate) fn claim(&self) -> Claim
-        ensures { (result.number ≡ self.now.number) × (result.serial ≡ self.now.serial) }
+        ensures { result.numbers ≡ record { area = self.now.number; serial = self.now.serial } }
     {
-        Claim::new(self.number, self.serial)
+        Claim::new(Numbers {
+            area: self.number,
+            serial: self.serial,
+        })
     }
 
-    /// What is refused of the claim with these numbers: `foreign`, `ousted`, or what the phase refuses.
-    pub(crate) fn refuses_claim(&self, number: u32, serial: u32, event: Event) -> Option<Refusal>
-        ensures { result ≡ claim_refusal (said self.now) number serial event }
+    /// Refuses what is refused of the claim with these numbers: `foreign`, `ousted`, or what the phase refuses.
+    pub(crate) fn permits_claim(&self, claim: Numbers, event: Event) -> Result<(), Refusal>
+        ensures { Refuses (claim_refusal (said self.now) claim event) result }
     {
-        if number != self.number {
-            return Some(self.refusal(Fault::Foreign));
+        if claim.area != self.number {
+            return Err(self.refusal(Fault::Foreign));
         }
-        if matches!(self.phase, Phase::Free) || serial != self.serial {
-            return Some(self.refusal(Fault::Ousted));
+        if self.phase == Phase::Free || claim.serial != self.serial {
+            return Err(self.refusal(Fault::Ousted));
         }
-        self.refuses(event)
+        self.permits(event)
     }
 
     /// Frees the area: nothing of the comparison stays.

@@ -5,37 +5,35 @@ ghost use Rattle.compare.specs.Beginning.{Beginning};
 
 use crate::area::Area;
 use crate::claim::Claim;
+use crate::compared::Compared;
 use crate::event::Event;
 use domain::domain::Domain;
 use refusal::fault::Refusal;
-use schema::sets::has_member;
 use schema::tables::Schema;
 use schema::tested::Tested;
 
 /// Begins a comparison of two schemas, or refuses and leaves the area as it was.
-fn begin<'a, D: Domain>(
+fn begin<D: Domain>(
     area: &mut Area,
-    first: &Schema<'a, D>,
-    second: &Schema<'a, D>,
+    first: &Schema<D>,
+    second: &Schema<D>,
     event: Event,
 ) -> Result<Claim, Refusal>
     ensures { Beginning event (tables first.now) (tables second.now) (sets D.Domain.holds first.now) area.old result area.new }
 {
     let (first, second) = Tested::both(first, second)?;
-    if let Some(refusal) = area.keeps_from(&first, &second, event) {
-        return Err(refusal);
-    }
-    let live = has_member(first.live_states(), 0);
-    area.start(&first, &second, live);
+    let compared = Compared::of(&first, &second);
+    area.permits_start(&compared, event)?;
+    area.start(&compared);
     Ok(area.claim())
 }
 
 /// Takes a free area for a comparison of two schemas: (0, 0) is listed, or, where the first schema accepts nothing, the area is ready
 /// with included. Or `size`, `state`, `row`, `domain`, `symbols`, `busy` or `worn`.
-pub fn take<'a, D: Domain>(
+pub fn take<D: Domain>(
     area: &mut Area,
-    first: &Schema<'a, D>,
-    second: &Schema<'a, D>,
+    first: &Schema<D>,
+    second: &Schema<D>,
 ) -> Result<Claim, Refusal>
     ensures { Beginning Take (tables first.now) (tables second.now) (sets D.Domain.holds first.now) area.old result area.new }
 {
@@ -43,10 +41,10 @@ pub fn take<'a, D: Domain>(
 }
 
 /// Takes an area in whatever phase it is. A claim that held it is ousted. Refusals as for `take`, but for `busy`.
-pub fn oust<'a, D: Domain>(
+pub fn oust<D: Domain>(
     area: &mut Area,
-    first: &Schema<'a, D>,
-    second: &Schema<'a, D>,
+    first: &Schema<D>,
+    second: &Schema<D>,
 ) -> Result<Claim, Refusal>
     ensures { Beginning Oust (tables first.now) (tables second.now) (sets D.Domain.holds first.now) area.old result area.new }
 {

@@ -10,7 +10,7 @@ use crate::phase::Kind;
 use codec::pile::Pile;
 use domain::domain::Domain;
 use search::pairs::RowPair;
-use search::search::search;
+use search::search::Question;
 use search::watchers::Refused;
 
 impl<D: Domain> Compared<'_, '_, '_, '_, D> {
@@ -18,22 +18,8 @@ impl<D: Domain> Compared<'_, '_, '_, '_, D> {
     fn gap(&self, p: u8, q: u8) -> Option<u32>
         ensures { Smallest (alone ((first_automaton D.Domain.holds self.now).has p) ((second_automaton D.Domain.holds self.now).has q)) result }
     {
-        let first = self.first;
-        let second = self.second;
-        let Some(values) = first
-            .measured
-            .schema
-            .domains
-            .get(first.measured.state_byte(p, 0) as usize)
-        else {
-            return None;
-        };
-        match second
-            .measured
-            .schema
-            .domains
-            .get(second.measured.state_byte(q, 0) as usize)
-        {
+        let values = self.first.domain(p)?;
+        match self.second.domain(q) {
             Some(others) => values.gap(others),
             None => values.least(),
         }
@@ -43,19 +29,17 @@ impl<D: Domain> Compared<'_, '_, '_, '_, D> {
     fn is_content_broken(&self, p: u8, q: u8, pairs: &mut [RowPair]) -> bool
         ensures { StatePair self.now p q → MarksLive D.Domain.holds self.now → 272 ≤ length pairs.old → Decides result (Broken (first_automaton D.Domain.holds self.now) (second_automaton D.Domain.holds self.now) Content p q) }
     {
-        let symbols = self.first.symbols_into(p, self.live);
-        let mut pile = Pile::new(pairs);
-        search(
-            self.first,
-            p,
-            symbols,
-            &Refused::new(self.second, q),
-            &mut pile,
-        )
-        .is_some()
+        let question = Question {
+            tested: self.first,
+            state: p,
+            symbols: self.first.symbols_into(p, self.live),
+            watcher: &Refused::new(self.second, q),
+        };
+        question.search(&mut Pile::new(pairs)).is_some()
     }
 
     /// How the pair of states is broken, in value before content, or none where it is not. ROW_PAIRS slots are lent.
+    #[tactic(auto, using(crate::proofs::Closed::closed_carries, crate::proofs::Telling::broken_tells))]
     pub fn broken(&self, p: u8, q: u8, pairs: &mut [RowPair]) -> Option<Kind>
         ensures answer { StatePair self.now p q → MarksLive D.Domain.holds self.now → 272 ≤ length pairs.old → MatchOption result (Unbroken (first_automaton D.Domain.holds self.now) (second_automaton D.Domain.holds self.now) p q) (λ k. Broken (first_automaton D.Domain.holds self.now) (second_automaton D.Domain.holds self.now) k p q) }
         ensures order { result ≡ Some Content → Broken (first_automaton D.Domain.holds self.now) (second_automaton D.Domain.holds self.now) Value p q → ⊥ }

@@ -1,121 +1,95 @@
 //! Claims: what the holder of an area carries, and can't leave behind.
-ghost use Rattle.std.specs.Prelude.{◌≡◌, ℕ, true};
+ghost use Rattle.std.specs.Prelude.{◌≡◌, true};
 
-/// What take and oust give: the area's number and its serial as the comparison began. It can't be let go before it is spent.
-pub struct Claim {
-    number: u32,
-    serial: u32,
-    spent: bool,
+use std::marker::PhantomData;
+
+/// A claim's two numbers: its area's number, and the area's serial as the comparison began.
+#[derive(Clone, Copy, Debug, PartialEq, Eq)]
+pub struct Numbers {
+    pub area: u32,
+    pub serial: u32,
 }
+
+/// Says of a claim that its comparison is not concluded.
+pub struct Comparing;
+
+/// Says of a claim that its comparison was concluded apart.
+pub struct Apart;
+
+/// A claim, and in its type what its comparison is at. It can't be let go before it is spent.
+pub struct Holding<S> {
+    numbers: Numbers,
+    spent: bool,
+    at: PhantomData<S>,
+}
+
+/// What take and oust give.
+pub type Claim = Holding<Comparing>;
 
 /// What a conclusion apart gives for the claim, with the same numbers.
-pub struct ApartClaim {
-    number: u32,
-    serial: u32,
-    spent: bool,
-}
+pub type ApartClaim = Holding<Apart>;
 
-impl Drop for Claim {
+impl<S> Drop for Holding<S> {
     fn drop(self)
         requires { self.spent ≡ true }
     {
         let Self {
-            number: _,
-            serial: _,
+            numbers: _,
             spent: _,
+            at: _,
         } = self;
     }
 }
 
-impl Drop for ApartClaim {
-    fn drop(self)
-        requires { self.spent ≡ true }
+impl<S> Holding<S> {
+    /// The claim's two numbers.
+    pub fn numbers(&self) -> Numbers
+        ensures { result ≡ self.now.numbers }
     {
-        let Self {
-            number: _,
-            serial: _,
-            spent: _,
-        } = self;
+        self.numbers
     }
-}
-
-/// What both claims tell, and how they are spent.
-pub trait Held {
-    // the area's number
-    ghost area: { Self → ℕ };
-    // the serial
-    ghost turn: { Self → ℕ };
 
     /// The area's number.
-    fn number(&self) -> u32
-        ensures { result ≡ area self.now };
+    pub fn number(&self) -> u32
+        ensures { result ≡ self.now.numbers.area }
+    {
+        self.numbers.area
+    }
 
     /// The serial as the comparison began.
-    fn serial(&self) -> u32
-        ensures { result ≡ turn self.now };
+    pub fn serial(&self) -> u32
+        ensures { result ≡ self.now.numbers.serial }
+    {
+        self.numbers.serial
+    }
 
     /// Spends the claim.
-    fn spend(self);
-}
-
-impl Held for Claim {
-    ghost area = { λ c. c.number };
-
-    ghost turn = { λ c. c.serial };
-
-    fn number(&self) -> u32 {
-        self.number
-    }
-
-    fn serial(&self) -> u32 {
-        self.serial
-    }
-
-    fn spend(self) {
+    pub(crate) fn spend(self) {
         let mut claim = self;
         claim.spent = true;
     }
 }
 
-impl Held for ApartClaim {
-    ghost area = { λ c. c.number };
-
-    ghost turn = { λ c. c.serial };
-
-    fn number(&self) -> u32 {
-        self.number
-    }
-
-    fn serial(&self) -> u32 {
-        self.serial
-    }
-
-    fn spend(self) {
-        let mut claim = self;
-        claim.spent = true;
-    }
-}
-
-impl Claim {
+impl Holding<Comparing> {
     /// A claim with these numbers.
-    pub(crate) fn new(number: u32, serial: u32) -> Claim
-        ensures { (result.number ≡ number) × (result.serial ≡ serial) }
+    pub(crate) fn new(numbers: Numbers) -> Claim
+        ensures { result.numbers ≡ numbers }
     {
-        Claim {
-            number,
-            serial,
+        Holding {
+            numbers,
             spent: false,
+            at: PhantomData,
         }
     }
 
     /// Spends the claim for an apart claim with its numbers.
     pub(crate) fn part(self) -> ApartClaim
-        ensures { (result.number ≡ self.number) × (result.serial ≡ self.serial) }
+        ensures { result.numbers ≡ self.numbers }
     {
-        let apart = ApartClaim {
-            number: self.number,
-            serial: self.serial,
+        let apart = Holding {
+            numbers: self.numbers,
             spent: false,
+            at: PhantomData,
         };
         self.spend();
         apart

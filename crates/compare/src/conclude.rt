@@ -2,7 +2,7 @@
 ghost use Rattle.compare.specs.Concluding.{Conclusion, GivingUp};
 
 use crate::area::Area;
-use crate::claim::{ApartClaim, Claim, Held};
+use crate::claim::{ApartClaim, Claim, Holding};
 use crate::event::{Decision, Event, decide};
 use crate::phase::{Kind, Phase};
 use refusal::fault::{Fault, Refusal};
@@ -18,7 +18,7 @@ pub enum Concluded {
 pub fn conclude(area: &mut Area, claim: Claim) -> Result<Concluded, (Refusal, Claim)>
     ensures { Conclusion area.old claim result area.new }
 {
-    if let Some(refusal) = area.refuses_claim(claim.number(), claim.serial(), Event::Conclude) {
+    if let Err(refusal) = area.permits_claim(claim.numbers(), Event::Conclude) {
         return Err((refusal, claim));
     }
     let examined = area.examined as usize;
@@ -35,17 +35,18 @@ pub fn conclude(area: &mut Area, claim: Claim) -> Result<Concluded, (Refusal, Cl
     }
 }
 
-/// Gives a claim up. The holder's frees the area and answers 1, an ousted one's only answers 0. Or `foreign`, with the claim.
-pub fn give_up<C: Held>(area: &mut Area, claim: C) -> Result<u32, (Refusal, C)>
-    ensures { GivingUp area.old claim (C.Held.area claim) (C.Held.turn claim) result area.new }
+/// Gives a claim of either kind up. The holder's frees the area and answers 1, an ousted one's only answers 0. Or `foreign`, with the claim.
+// The answer stays a number: the product's rules fix 1 and 0.
+pub fn give_up<S>(area: &mut Area, claim: Holding<S>) -> Result<u32, (Refusal, Holding<S>)>
+    ensures { GivingUp area.old claim result area.new }
 {
-    if claim.number() != area.number {
+    let numbers = claim.numbers();
+    if numbers.area != area.number {
         return Err((area.refusal(Fault::Foreign), claim));
     }
-    let serial = claim.serial();
     claim.spend();
     match decide(area.phase, Event::GiveUp) {
-        Decision::Release if serial == area.serial => {
+        Decision::Release if numbers.serial == area.serial => {
             area.release();
             Ok(1)
         }

@@ -6,7 +6,7 @@ use crate::phase::{Kind, Phase, Verdict};
 use refusal::fault::Fault;
 
 /// What is asked of an area. All but take and oust are asked by the holder.
-#[derive(Clone, Copy)]
+#[derive(Clone, Copy, Debug, PartialEq, Eq)]
 pub enum Event {
     Take,
     Oust,
@@ -17,7 +17,7 @@ pub enum Event {
 }
 
 /// What comes of it: a transition, a refusal, or no change.
-#[derive(Clone, Copy)]
+#[derive(Clone, Copy, Debug, PartialEq, Eq)]
 pub enum Decision {
     /// A comparison begins.
     Begin,

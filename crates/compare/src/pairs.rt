@@ -10,7 +10,7 @@ pub mod listing;
 pub const PLACES: usize = STATES * STATES;
 
 /// A listed pair: the first schema's state, the second's, the index of the pair that led to it, and the symbol that did.
-#[derive(Clone, Copy)]
+#[derive(Clone, Copy, Debug, PartialEq, Eq)]
 pub struct Listed {
     pub first: u8,
     pub second: u8,
@@ -19,6 +19,8 @@ pub struct Listed {
 }
 
 /// The pairs in the order in which they were listed, inside two state counts, and for each first state a bit for each listed second.
+// A buffer with its length beside it: a rule of the project, an area allocates nothing and has memory for every pair from the start.
+// No model beside the fields: contracts say `entries_of` of what was listed and the counts by name, and a model's value would say no more.
 #[derive(Drop)]
 pub struct Pairs {
     firsts: u8,

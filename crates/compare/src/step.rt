@@ -1,13 +1,15 @@
 //! Examining the listed pairs, one after the other.
 ghost use Rattle.std.specs.Prelude.{◌≡◌, ℕ, ◌<◌, ◌≤◌, ◌&&◌, length, if◌then◌else◌, ◌==◌};
-ghost use Rattle.schema.specs.Tables.{tables, sets, automaton};
+ghost use Rattle.schema.specs.Tables.{tables, sets};
 ghost use Rattle.domain.specs.Kinds.{bit};
 ghost use Rattle.compare.specs.Listing.{entries_of};
-ghost use Rattle.compare.specs.Schemas.{first_automaton, second_automaton, StatePair, MarksLive, Noted};
-ghost use Rattle.compare.specs.Stepping.{with_next, with_nexts, «Goes_on», Turn, Stepped, Stepping, step_kept_from, is_running};
+ghost use Rattle.compare.specs.Refusals.{Refuses};
+ghost use Rattle.compare.specs.Schemas.{first_automaton, second_automaton, first_tables, second_tables, StatePair, MarksLive, Noted};
+ghost use Rattle.compare.specs.Stepping.{next_pair, with_nexts, «Goes_on», Turn, Stepped, Stepping, step_kept_from, is_running};
 ghost use Rattle.compare.specs.Work.{said};
 
 use crate::area::Area;
+use crate::claim::Numbers;
 use crate::compared::Compared;
 use crate::event::{Decision, Event, decide};
 use crate::pairs::{Listed, Pairs};
@@ -23,50 +25,43 @@ use search::pairs::{ROW_PAIRS, RowPair};
 /// The most pairs that a step may ask for: as many as there are.
 pub const MOST_STEPS: u32 = 4096;
 
-/// Lists the pair of the next states of a pair under a symbol of the set, where both are there; the pair is at a place of the list.
-fn list_next<D: Domain>(
-    pairs: &mut Pairs,
-    compared: &Compared<D>,
+/// A listed pair, its place in the list, and the symbols live at its first state.
+#[derive(Clone, Copy)]
+struct Leading {
     pair: Listed,
     place: u16,
     symbols: u64,
-    symbol: u8,
-)
-    ensures firsts { pairs.new.firsts ≡ pairs.old.firsts }
-    ensures seconds { pairs.new.seconds ≡ pairs.old.seconds }
-    ensures entries { pairs.old.firsts ≡ compared.now.first.now.measured.schema.states → pairs.old.seconds ≡ compared.now.second.now.measured.schema.states → StatePair compared.now pair.first pair.second → place < length (entries_of pairs.old) → entries_of pairs.new ≡ with_next place symbol (bit symbols symbol) ((first_automaton D.Domain.holds compared.now).next pair.first symbol) ((second_automaton D.Domain.holds compared.now).next pair.second symbol) (entries_of pairs.old) }
-{
-    if !has_member(symbols, symbol) {
-        return;
-    }
-    let Some(first) = compared.first.next_state(pair.first, symbol) else {
-        return;
-    };
-    let Some(second) = compared.second.next_state(pair.second, symbol) else {
-        return;
-    };
-    pairs.list(Listed {
-        first,
-        second,
-        parent: place,
-        symbol,
-    });
 }
 
-/// Lists the pairs of next states of a pair under the symbols of the set, ascending; the pair is at a place of the list.
-fn list_nexts<D: Domain>(
-    pairs: &mut Pairs,
-    compared: &Compared<D>,
-    pair: Listed,
-    place: u16,
-    symbols: u64,
-)
-    ensures firsts { pairs.new.firsts ≡ pairs.old.firsts }
-    ensures seconds { pairs.new.seconds ≡ pairs.old.seconds }
-    ensures entries { pairs.old.firsts ≡ compared.now.first.now.measured.schema.states → pairs.old.seconds ≡ compared.now.second.now.measured.schema.states → StatePair compared.now pair.first pair.second → place < length (entries_of pairs.old) → entries_of pairs.new ≡ with_nexts (first_automaton D.Domain.holds compared.now) (second_automaton D.Domain.holds compared.now) (bit symbols) pair.first pair.second place compared.now.first.now.measured.schema.symbols (entries_of pairs.old) }
-{
-    for symbol in 0..compared.first.symbols() {
-        list_next(pairs, compared, pair, place, symbols, symbol as u8);
+impl Leading {
+    /// The pair that it leads to under a symbol: that of the next states, where the symbol is live and both are there.
+    fn next<D: Domain>(self, compared: &Compared<D>, symbol: u8) -> Option<Listed>
+        ensures { result ≡ next_pair self.place symbol (bit self.symbols symbol) ((first_automaton D.Domain.holds compared.now).next self.pair.first symbol) ((second_automaton D.Domain.holds compared.now).next self.pair.second symbol) }
+    {
+        if !has_member(self.symbols, symbol) {
+            return None;
+        }
+        let first = compared.first.next_state(self.pair.first, symbol)?;
+        let second = compared.second.next_state(self.pair.second, symbol)?;
+        Some(Listed {
+            first,
+            second,
+            parent: self.place,
+            symbol,
+        })
+    }
+
+    /// Lists the pairs that it leads to, by ascending symbols.
+    fn list_nexts<D: Domain>(self, compared: &Compared<D>, pairs: &mut Pairs)
+        ensures firsts { pairs.new.firsts ≡ pairs.old.firsts }
+        ensures seconds { pairs.new.seconds ≡ pairs.old.seconds }
+        ensures entries { pairs.old.firsts ≡ compared.now.first.now.measured.schema.states → pairs.old.seconds ≡ compared.now.second.now.measured.schema.states → StatePair compared.now self.pair.first self.pair.second → self.place < length (entries_of pairs.old) → entries_of pairs.new ≡ with_nexts (first_automaton D.Domain.holds compared.now) (second_automaton D.Domain.holds compared.now) (bit self.symbols) self.pair.first self.pair.second self.place compared.now.first.now.measured.schema.symbols (entries_of pairs.old) }
+    {
+        for symbol in 0..compared.first.symbols() {
+            if let Some(next) = self.next(compared, symbol as u8) {
+                pairs.list(next);
+            }
+        }
     }
 }
 
@@ -78,12 +73,17 @@ impl Area {
         let symbols = compared
             .first
             .live_symbols(pair.first, compared.live, ALL_SYMBOLS);
-        list_nexts(&mut self.pairs, compared, pair, place, symbols);
-        if place as usize + 1 == self.pairs.length() {
-            self.phase = Phase::Ready(Verdict::Included);
+        let leading = Leading {
+            pair,
+            place,
+            symbols,
+        };
+        leading.list_nexts(compared, &mut self.pairs);
+        self.phase = if place as usize + 1 == self.pairs.length() {
+            Phase::Ready(Verdict::Included)
         } else {
-            self.phase = Phase::Running;
-        }
+            Phase::Running
+        };
     }
 
     /// Examines the next pair of the list; where none is left, the area is ready with included. ROW_PAIRS slots are lent.
@@ -112,7 +112,7 @@ impl Area {
     )
         ensures { Noted compared.now (said self.old) → MarksLive D.Domain.holds compared.now → 272 ≤ length scratch.old → Stepped (first_automaton D.Domain.holds compared.now) (second_automaton D.Domain.holds compared.now) steps (said self.old) (said self.new) }
     {
-        for turn in 0..steps {
+        for _ in 0..steps {
             if let Decision::Examine = decide(self.phase, Event::Step) {
                 self.examine(compared, scratch);
             } else {
@@ -121,105 +121,69 @@ impl Area {
         }
     }
 
-    /// Examines up to so many pairs of two tested schemas. ROW_PAIRS slots are lent.
-    fn examine_tested<D: Domain>(
-        &mut self,
-        first: &Tested<D>,
-        second: &Tested<D>,
-        steps: u32,
-        scratch: &mut [RowPair],
-    )
-        ensures { self.old.symbols ≡ first.now.measured.schema.symbols → self.old.pairs.firsts ≡ first.now.measured.schema.states → self.old.pairs.seconds ≡ second.now.measured.schema.states → 272 ≤ length scratch.old → Stepped (automaton (tables first.now.measured.schema) (sets D.Domain.holds first.now.measured.schema)) (automaton (tables second.now.measured.schema) (sets D.Domain.holds second.now.measured.schema)) steps (said self.old) (said self.new) }
-    {
-        let compared = Compared {
-            first,
-            second,
-            live: first.live_states(),
-        };
-        self.examine_up_to(&compared, steps, scratch);
-    }
-
-    /// What keeps two tested schemas from a step: `symbols`, `foreign`, `ousted`, `schemas`, `steps` or `scratch`.
-    fn keeps_from_step<D>(
+    /// Refuses what keeps two schemas from a step: `symbols`, `foreign`, `ousted`, `schemas`, `steps` or `scratch`.
+    fn permits_step<D>(
         &self,
-        first: &Tested<D>,
-        second: &Tested<D>,
-        number: u32,
-        serial: u32,
+        compared: &Compared<D>,
+        claim: Numbers,
         steps: u32,
         slots: usize,
-    ) -> Option<Refusal>
-        ensures { result ≡ step_kept_from (said self.now) (tables first.now.measured.schema) (tables second.now.measured.schema) number serial steps slots }
+    ) -> Result<(), Refusal>
+        ensures { Refuses (step_kept_from (said self.now) (first_tables compared.now) (second_tables compared.now) claim steps slots) result }
     {
-        if first.symbols() != second.symbols() {
-            return Some(self.refusal(Fault::Symbols));
+        if !compared.has_same_symbols() {
+            return Err(self.refusal(Fault::Symbols));
         }
-        if let Some(refusal) = self.refuses_claim(number, serial, Event::Step) {
-            return Some(refusal);
-        }
-        if !self.has_noted(first, second) {
-            return Some(self.refusal(Fault::Schemas));
+        self.permits_claim(claim, Event::Step)?;
+        if !self.has_noted(compared) {
+            return Err(self.refusal(Fault::Schemas));
         }
         if steps == 0 || steps > MOST_STEPS {
-            return Some(self.refusal(Fault::Steps));
+            return Err(self.refusal(Fault::Steps));
         }
         if slots < ROW_PAIRS {
-            return Some(Refusal {
-                fault: Fault::Scratch,
-                place: ROW_PAIRS,
-            });
+            return Err(Fault::Scratch.at(ROW_PAIRS));
         }
-        None
+        Ok(())
     }
 
     /// Whether the noted counts are those of the two schemas.
-    fn has_noted<D>(&self, first: &Tested<D>, second: &Tested<D>) -> bool
-        ensures { result ≡ (self.now.symbols == first.now.measured.schema.symbols && (self.now.pairs.firsts == first.now.measured.schema.states && self.now.pairs.seconds == second.now.measured.schema.states)) }
+    fn has_noted<D>(&self, compared: &Compared<D>) -> bool
+        ensures { result ≡ (self.now.symbols == (first_tables compared.now).symbols && (self.now.pairs.firsts == (first_tables compared.now).states && self.now.pairs.seconds == (second_tables compared.now).states)) }
     {
-        let same_symbols = self.symbols as usize == first.symbols();
-        let same_firsts = self.pairs.firsts() as usize == first.states();
-        let same_seconds = self.pairs.seconds() as usize == second.states();
+        let same_symbols = self.symbols as usize == compared.first.symbols();
+        let same_firsts = self.pairs.firsts() as usize == compared.first.states();
+        let same_seconds = self.pairs.seconds() as usize == compared.second.states();
         same_symbols && (same_firsts && same_seconds)
     }
 
     /// 1 where the verdict stands, and 0 while the area runs.
+    // A number, as the product's rules fix what a step answers: the pairs examined, and 1 or 0.
     fn mark(&self) -> u32
         ensures { result ≡ (if is_running self.now.phase then 0 else 1) }
     {
-        match self.phase {
-            Phase::Running => 0,
-            Phase::Free | Phase::Ready(_) | Phase::Apart(_) => 1,
-        }
+        u32::from(self.phase != Phase::Running)
     }
 }
 
 /// Examines up to that many pairs in the order of the list, until the verdict stands: how many it examined, and 1 where the verdict
 /// stands, else 0. The claim is told by its two numbers. Or `size`, `state`, `row`, `domain`, `symbols`, `foreign`, `ousted`, `schemas`,
 /// `steps` or `scratch`, and the area is as it was. The row pairs hold anything afterwards.
-pub fn step<'a, D: Domain>(
+pub fn step<D: Domain>(
     area: &mut Area,
-    number: u32,
-    serial: u32,
-    first: &Schema<'a, D>,
-    second: &Schema<'a, D>,
+    claim: Numbers,
+    first: &Schema<D>,
+    second: &Schema<D>,
     steps: u32,
     scratch: &mut [RowPair],
 ) -> Result<(u32, u32), Refusal>
-    ensures { Stepping (tables first.now) (tables second.now) (sets D.Domain.holds first.now) (sets D.Domain.holds second.now) number serial steps (length scratch.old) area.old result area.new }
+    ensures { Stepping (tables first.now) (tables second.now) (sets D.Domain.holds first.now) (sets D.Domain.holds second.now) claim steps (length scratch.old) area.old result area.new }
 {
     let (first, second) = Tested::both(first, second)?;
-    if let Some(refusal) = area.keeps_from_step(
-        &first,
-        &second,
-        number,
-        serial,
-        steps,
-        scratch.len(),
-    ) {
-        return Err(refusal);
-    }
+    let compared = Compared::of(&first, &second);
+    area.permits_step(&compared, claim, steps, scratch.len())?;
     let before = area.examined;
-    area.examine_tested(&first, &second, steps, scratch);
+    area.examine_up_to(&compared, steps, scratch);
     let count = u32::from(area.examined.saturating_sub(before));
     Ok((count, area.mark()))
 }

@@ -5,7 +5,7 @@ ghost use Rattle.compare.specs.Trailing.{Trail, Trailing, TrailWritten, OneTrail
 ghost use Rattle.compare.specs.Work.{said};
 
 use crate::area::Area;
-use crate::claim::{ApartClaim, Held};
+use crate::claim::ApartClaim;
 use crate::event::Event;
 use crate::pairs::{Listed, Pairs};
 use refusal::fault::{Fault, Refusal};
@@ -14,10 +14,9 @@ use refusal::fault::{Fault, Refusal};
 fn led_to(pairs: &Pairs, index: usize) -> Option<Listed>
     ensures { result ≡ led_to (entries_of pairs.now) index }
 {
-    match pairs.entry(index) {
-        Some(pair) if (pair.parent as usize) < index => Some(pair),
-        _ => None,
-    }
+    pairs
+        .entry(index)
+        .filter(|pair| (pair.parent as usize) < index)
 }
 
 /// How many symbols the trail of a listed pair has.
@@ -58,6 +57,7 @@ fn broken_index(area: &Area) -> usize
 
 /// Writes the symbols that lead from the pair (0, 0) to the broken pair at the output's front, a byte each, and tells how many. Or `foreign`,
 /// `ousted`, `early` or `room`. The claim comes back either way.
+#[tactic(auto, using(crate::proofs::Trails::one_trail, crate::proofs::Trails::every_trail))]
 pub fn trail(
     area: &Area,
     claim: ApartClaim,
@@ -67,19 +67,13 @@ pub fn trail(
     ensures one { OneTrail }
     ensures every { EveryTrail }
 {
-    if let Some(refusal) = area.refuses_claim(claim.number(), claim.serial(), Event::Write) {
+    if let Err(refusal) = area.permits_claim(claim.numbers(), Event::Write) {
         return Err((refusal, claim));
     }
     let index = broken_index(area);
     let needed = trail_length(&area.pairs, index);
     if output.len() < needed {
-        return Err((
-            Refusal {
-                fault: Fault::Room,
-                place: needed,
-            },
-            claim,
-        ));
+        return Err((Fault::Room.at(needed), claim));
     }
     let written = write_trail(&area.pairs, index, output);
     Ok((written, claim))

@@ -34,16 +34,6 @@ module _ (rs : List Range) where
         met = λ _. (k, omega arith, refl);
       }
 
-  -- a range that begins too low, is inverted or ends too high breaks the rule
-  pub too_low : (k free : ℕ) → Sofar rs k free → (at rs k).first < free → Follows rs (k + 1) → ⊥
-  too_low k free so low f = let m = so.met (omega arith) in omega (arith, m.2, f.apart m.0 k m.1 (omega arith))
-
-  pub inverted : (k : ℕ) → (at rs k).last < (at rs k).first → Follows rs (k + 1) → ⊥
-  inverted k h f = omega (arith, f.ordered k (omega arith))
-
-  pub too_high : (k : ℕ) → 1114111 < (at rs k).last → Follows rs (k + 1) → ⊥
-  too_high k h f = omega (arith, f.inside k (omega arith))
-
   -- fewer of the ranges follow the rule too
   fewer : (k n : ℕ) → k ≤ n → Follows rs n → Follows rs k
   fewer k n le f =

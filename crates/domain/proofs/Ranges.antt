@@ -1,18 +1,10 @@
 -- Lists of ranges: the first few of them, and a test on one of them. Assumes nothing.
-use Rattle.std.proofs.Common.{◌≡◌, ℕ, zero, suc, ◌+◌, ◌<◌, min, Bool, true, false, ◌&&◌, ◌||◌, List, [], ◌∷◌, ◌++◌, length, get_or, take, sym, refl, ap, ◌∙◌, ⊎_elim, arith}
-use Rattle.std.proofs.lemmas.List.{take_all, take_more}
-use Rattle.std.proofs.lemmas.Bool.{cases_lt, both_ways, or_cases, or_left, or_right}
+use Rattle.std.proofs.Common.{◌≡◌, ℕ, zero, suc, ◌+◌, ◌<◌, Bool, true, false, ◌&&◌, ◌||◌, List, [], ◌∷◌, ◌++◌, length, get_or, take, sym, refl, ap, ◌∙◌, ⊎_elim, arith}
+use Rattle.std.proofs.lemmas.List.{take_more}
+use Rattle.std.proofs.lemmas.Bool.{both_ways, or_cases, or_left, or_right}
 use Rattle.domain.specs.declared.coverage.Range.{Range}
 use Rattle.domain.specs.Kinds.{some}
 use Rattle.domain.specs.Sets.{either, both}
-
--- all of a list are its first n, where n is past its end
-pub take_min : {X : Type 0} (n k : ℕ) (xs : List X) → length xs ≡ k → take (min n k) xs ≡ take n xs
-take_min n k xs long =
-    ⊎_elim
-    (λ h. ap (λ (m : ℕ). take m xs) (omega arith))
-    (λ h. take_all (min n k) xs (omega arith) ∙ sym (take_all n xs (omega arith)))
-    (cases_lt n k)
 
 some_append : (f : Range → ℕ → Bool) (xs ys : List Range) (v : ℕ) → some f (xs ++ ys) v ≡ (some f xs v || some f ys v)
 some_append f [] ys v = refl

@@ -11,7 +11,7 @@ pub mod making;
 pub const RANGES: usize = 8;
 
 /// A range of code points, both ends included.
-#[derive(Clone, Copy)]
+#[derive(Clone, Copy, Debug, PartialEq, Eq)]
 pub struct Range {
     pub first: u32,
     pub last: u32,
@@ -29,16 +29,13 @@ impl Range {
     pub fn least(&self) -> Option<u32>
         ensures { Smallest (in_range self.now) result }
     {
-        if self.first <= self.last {
-            Some(self.first)
-        } else {
-            None
-        }
+        (self.first <= self.last).then_some(self.first)
     }
 }
 
 /// A set of code points: the first `count` of the ranges are in use.
-#[derive(Clone, Copy)]
+// An array with its count beside it: a coverage lies plain in a list that the caller lends, and library calls allocate nothing.
+#[derive(Clone, Copy, Debug, PartialEq, Eq)]
 pub struct Coverage {
     ranges: [Range; RANGES],
     count: u8,
@@ -68,11 +65,7 @@ impl Coverage {
     fn only(&self, other: &Coverage, value: u32) -> Option<u32>
         ensures { Smallest (both (alone (has_letter self.now) (has_letter other.now)) (nat_eq value)) result }
     {
-        if self.has(value) && !other.has(value) {
-            Some(value)
-        } else {
-            None
-        }
+        (self.has(value) && !other.has(value)).then_some(value)
     }
 
     /// The smallest value in this coverage alone at which one of its ranges begins.

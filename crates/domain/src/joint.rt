@@ -9,7 +9,7 @@ use crate::domain::Domain;
 pub const MIDDLE: u32 = 2_147_483_648;
 
 /// A left and a right domain, each of any kind.
-#[derive(Clone, Copy)]
+#[derive(Clone, Copy, Debug, PartialEq, Eq)]
 pub struct Joint<L, R> {
     pub left: L,
     pub right: R,
@@ -19,15 +19,9 @@ pub struct Joint<L, R> {
 fn lower(left: Option<u32>, right: Option<u32>) -> Option<u32>
     ensures { (p q : ℕ → Bool) → Smallest p left → Smallest q right → Smallest (joined p q) result }
 {
-    if let Some(value) = left
-        && value < MIDDLE
-    {
-        return Some(value);
-    }
-    match right {
-        Some(value) if value < MIDDLE => Some(MIDDLE + value),
-        _ => None,
-    }
+    let low = left.filter(|value| *value < MIDDLE);
+    let high = right.filter(|value| *value < MIDDLE);
+    low.or(high.map(|value| MIDDLE + value))
 }
 
 impl<L: Domain, R: Domain> Domain for Joint<L, R> {

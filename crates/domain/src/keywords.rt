@@ -6,9 +6,16 @@ ghost use Rattle.domain.specs.Sets.{Smallest, alone};
 use crate::domain::Domain;
 
 /// A set of values below 64, one a bit, bit 0 the lowest.
-#[derive(Clone, Copy)]
+#[derive(Clone, Copy, Debug, PartialEq, Eq)]
 pub struct Keywords {
     pub bits: u64,
+}
+
+/// Whether a bit is set; past the last there is none.
+pub fn has_bit(bits: u64, index: u32) -> bool
+    ensures { result ≡ in_bits bits index }
+{
+    index < 64 && (bits >> index) & 1 == 1
 }
 
 /// The lowest bit that is set, or none in 0.
@@ -33,7 +40,7 @@ impl Domain for Keywords {
     ghost holds = { has_keyword };
 
     fn has(&self, value: u32) -> bool {
-        value < 64 && (self.bits >> value) & 1 == 1
+        has_bit(self.bits, value)
     }
 
     fn least(&self) -> Option<u32> {

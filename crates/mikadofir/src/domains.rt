@@ -8,15 +8,14 @@ use crate::job::Task;
 use api::{Coverage, Domain, Joint, Keywords, MIDDLE};
 use notation::kinds::Written;
 use notation::trouble::Trouble;
-use notation::words::{Words, end};
-use std::alloc::Global;
+use notation::words::Words;
 use std::fmt;
 
 /// A book's keywords stand on the left and its letters on the right.
 pub type Book = Joint<Keywords, Coverage>;
 
 /// A value of a domain, as a maker knows it.
-#[derive(Clone, Copy)]
+#[derive(Clone, Copy, Debug, PartialEq, Eq)]
 enum Member {
     Keyword(u32),
     Letter(u32),
@@ -61,6 +60,7 @@ impl<L: Named, R: Named> Named for Joint<L, R> {
     ghost names = { λ v. (if nat_lt v 2147483648 then L.Named.names v else R.Named.names (v - 2147483648)) };
 
     fn member(value: u32) -> Member {
+        // A match and not `map_or_else`, which takes the value of the left half last and in a closure.
         match value.checked_sub(MIDDLE) {
             Some(right) => R::member(right),
             None => L::member(value),
@@ -69,7 +69,7 @@ impl<L: Named, R: Named> Named for Joint<L, R> {
 }
 
 /// What the engine lacks, if anything.
-#[derive(Clone, Copy)]
+#[derive(Clone, Copy, Debug, PartialEq, Eq)]
 pub struct Lack(Option<Member>);
 
 impl fmt::Display for Lack {
@@ -85,40 +85,29 @@ impl fmt::Display for Lack {
 fn first_lacking<D: Domain + Named>(maker: &D, engine: &D) -> Option<Member>
     ensures { Lacking (D.Domain.holds maker.now) (D.Domain.holds engine.now) D.Named.names result }
 {
-    match maker.gap(engine) {
-        Some(value) => Some(D::member(value)),
-        None => None,
-    }
+    maker.gap(engine).map(|value| D::member(value))
 }
 
 /// What the second domain read, the engine's, lacks of the first, the maker's.
-fn lacking<'a, D: Domain + Written + Named>(
-    heap: Global,
-    words: &mut Words<'a>,
-) -> Result<Lack, Trouble<'a>> {
-    let maker = D::read(heap, words)?;
-    let engine = D::read(heap, words)?;
-    end(words)?;
+fn lacking<'a, D: Domain + Written + Named>(words: &mut Words<'a>) -> Result<Lack, Trouble<'a>> {
+    let maker = D::read(words)?;
+    let engine = D::read(words)?;
+    words.end()?;
     Ok(Lack(first_lacking(&maker, &engine)))
 }
 
 /// The task.
-#[derive(Clone, Copy)]
+#[derive(Clone, Copy, Debug, PartialEq, Eq)]
 pub struct Domains;
 
 impl Task for Domains {
     type Outcome = Lack;
 
-    fn outcome<'a>(
-        &mut self,
-        heap: Global,
-        kind: &'a str,
-        words: &mut Words<'a>,
-    ) -> Result<Lack, Trouble<'a>> {
+    fn outcome<'a>(&mut self, kind: &'a str, words: &mut Words<'a>) -> Result<Lack, Trouble<'a>> {
         match kind {
-            "letters" => lacking::<Coverage>(heap, words),
-            "keywords" => lacking::<Keywords>(heap, words),
-            "book" => lacking::<Book>(heap, words),
+            "letters" => lacking::<Coverage>(words),
+            "keywords" => lacking::<Keywords>(words),
+            "book" => lacking::<Book>(words),
             _ => Err(Trouble::Unreadable(kind)),
         }
     }

@@ -1,6 +1,6 @@
 //! A job as text: lines `KIND NAME WORDS`, and what is printed of each.
 use notation::trouble::Trouble;
-use notation::words::{Words, aside, word};
+use notation::words::{Words, aside};
 use std::alloc::Global;
 use std::{fmt, fs, io};
 
@@ -12,18 +12,23 @@ pub trait Task {
     /// What a line of a kind comes to, by the words behind its name.
     fn outcome<'a>(
         &mut self,
-        heap: Global,
         kind: &'a str,
         words: &mut Words<'a>,
     ) -> Result<Self::Outcome, Trouble<'a>>;
 }
 
 /// What a line comes to, with its kind and its name.
-#[derive(Drop)]
+#[derive(Clone, Copy, Debug, Drop, PartialEq, Eq)]
 struct Finding<'a, O> {
     kind: &'a str,
     name: &'a str,
     outcome: O,
+}
+
+impl<'a, O: fmt::Display> fmt::Display for Finding<'a, O> {
+    fn fmt<W: fmt::Write>(&self, f: &mut fmt::Formatter<W>) -> fmt::Result {
+        write!(f, "{} {}: {}", self.kind, self.name, self.outcome)
+    }
 }
 
 /// What a line of the job comes to.
@@ -32,10 +37,10 @@ fn found<'a, T: Task>(
     task: &mut T,
     line: &'a str,
 ) -> Result<Finding<'a, T::Outcome>, Trouble<'a>> {
-    let mut words = line.split_whitespace();
-    let kind = word(&mut words)?;
-    let name = word(&mut words)?;
-    let outcome = task.outcome(heap, kind, &mut words)?;
+    let mut words = Words::new(heap, line);
+    let kind = words.word()?;
+    let name = words.word()?;
+    let outcome = task.outcome(kind, &mut words)?;
     Ok(Finding {
         kind,
         name,
@@ -53,11 +58,7 @@ pub fn run<T: Task>(rt: &HostRuntime, task: &mut T, file: &str) -> io::Result<()
         }
         let number = index + 1;
         match found(rt.alloc(), task, line) {
-            Ok(finding) => {
-                let kind = finding.kind;
-                let name = finding.name;
-                println!(rt; "line {number}: {kind} {name}: {}", finding.outcome)?;
-            }
+            Ok(finding) => println!(rt; "line {number}: {finding}")?,
             Err(trouble) => println!(rt; "line {number}: {trouble}")?,
         }
     }

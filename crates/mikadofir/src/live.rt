@@ -1,16 +1,14 @@
 //! Which states of a book's schema accept a tree, and which accept none: `schema NAME TABLES`.
 use crate::domains::Book;
 use crate::job::Task;
-use notation::kinds::Written;
 use notation::schemas::Tables;
 use notation::states::States;
 use notation::trouble::Trouble;
-use notation::words::{Words, end};
-use std::alloc::Global;
+use notation::words::Words;
 use std::fmt;
 
 /// The states of a schema, the live and the dead.
-#[derive(Clone, Copy)]
+#[derive(Clone, Copy, Debug, PartialEq, Eq)]
 pub struct Split {
     live: States,
     dead: States,
@@ -23,6 +21,7 @@ impl fmt::Display for Split {
 }
 
 /// The first so many states, at most 64, one a bit.
+// A branch and not `checked_shl`: that takes a `u32`, and the count would first be turned into one, with a branch of its own.
 fn first(count: usize) -> u64 {
     if count < 64 {
         !(u64::MAX << count)
@@ -32,34 +31,28 @@ fn first(count: usize) -> u64 {
 }
 
 /// The live and the dead states of the schema of the next words.
-fn told_apart<'a>(heap: Global, words: &mut Words<'a>) -> Result<Split, Trouble<'a>> {
-    let tables: Tables<Book> = Tables::read(heap, words)?;
-    end(words)?;
+fn told_apart<'a>(words: &mut Words<'a>) -> Result<Split, Trouble<'a>> {
+    let tables: Tables<Book> = Tables::read(words)?;
+    words.end()?;
     let schema = tables.schema();
-    match api::live(&schema) {
-        Ok(live) => Ok(Split {
-            live: States(live),
-            dead: States(first(schema.states) & !live),
-        }),
-        Err(refusal) => Err(Trouble::Refused(refusal)),
-    }
+    let live = api::live(&schema)?;
+    Ok(Split {
+        live: States(live),
+        dead: States(first(schema.states) & !live),
+    })
 }
 
 /// The task.
-#[derive(Clone, Copy)]
+#[derive(Clone, Copy, Debug, PartialEq, Eq)]
 pub struct Live;
 
 impl Task for Live {
     type Outcome = Split;
 
-    fn outcome<'a>(
-        &mut self,
-        heap: Global,
-        kind: &'a str,
-        words: &mut Words<'a>,
-    ) -> Result<Split, Trouble<'a>> {
+    fn outcome<'a>(&mut self, kind: &'a str, words: &mut Words<'a>) -> Result<Split, Trouble<'a>> {
+        // Spelled out, as in each task: a test of the kind that tasks share would be no shorter than the arm that it saves.
         match kind {
-            "schema" => told_apart(heap, words),
+            "schema" => told_apart(words),
             _ => Err(Trouble::Unreadable(kind)),
         }
     }

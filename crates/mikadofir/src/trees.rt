@@ -1,20 +1,17 @@
 //! Whether trees keep to a book's schema: `schema NAME TABLES`, in force until the next, and `tree NAME BYTES`.
 use crate::domains::Book;
 use crate::job::Task;
-use notation::bytes::bytes;
-use notation::kinds::Written;
 use notation::levels::levels;
 use notation::schemas::Tables;
 use notation::trouble::Trouble;
-use notation::words::{Words, end};
-use std::alloc::Global;
+use notation::words::Words;
 use std::fmt;
 
 /// How many levels a tree may have.
 const LEVELS: usize = 8;
 
 /// What a line comes to.
-#[derive(Clone, Copy)]
+#[derive(Clone, Copy, Debug, PartialEq, Eq)]
 pub enum Outcome {
     /// The schema is in force.
     InForce,
@@ -39,18 +36,11 @@ pub struct Trees {
 }
 
 /// Whether the schema of the tables accepts the tree of the next word.
-fn accepted<'a>(
-    heap: Global,
-    tables: &Tables<Book>,
-    words: &mut Words<'a>,
-) -> Result<bool, Trouble<'a>> {
-    let tree = bytes(heap, words)?;
-    end(words)?;
-    let mut levels = levels(heap, LEVELS)?;
-    match api::check(&tables.schema(), tree.as_slice(), levels.as_mut_slice()) {
-        Ok(answer) => Ok(answer),
-        Err(refusal) => Err(Trouble::Refused(refusal)),
-    }
+fn accepted<'a>(tables: &Tables<Book>, words: &mut Words<'a>) -> Result<bool, Trouble<'a>> {
+    let tree = words.bytes()?;
+    words.end()?;
+    let mut levels = levels(words.heap, LEVELS)?;
+    Ok(api::check(&tables.schema(), tree.as_slice(), levels.as_mut_slice())?)
 }
 
 impl Trees {
@@ -60,10 +50,10 @@ impl Trees {
     }
 
     /// Puts the schema of the next words in force. Where they say none, none is in force.
-    fn enforce<'a>(&mut self, heap: Global, words: &mut Words<'a>) -> Result<(), Trouble<'a>> {
+    fn enforce<'a>(&mut self, words: &mut Words<'a>) -> Result<(), Trouble<'a>> {
         self.tables = None;
-        let tables = Tables::read(heap, words)?;
-        end(words)?;
+        let tables = Tables::read(words)?;
+        words.end()?;
         self.tables = Some(tables);
         Ok(())
     }
@@ -74,16 +64,15 @@ impl Task for Trees {
 
     fn outcome<'a>(
         &mut self,
-        heap: Global,
         kind: &'a str,
         words: &mut Words<'a>,
     ) -> Result<Outcome, Trouble<'a>> {
         match (kind, &self.tables) {
             ("schema", _) => {
-                self.enforce(heap, words)?;
+                self.enforce(words)?;
                 Ok(Outcome::InForce)
             }
-            ("tree", Some(tables)) => Ok(Outcome::Accepted(accepted(heap, tables, words)?)),
+            ("tree", Some(tables)) => Ok(Outcome::Accepted(accepted(tables, words)?)),
             _ => Err(Trouble::Unreadable(kind)),
         }
     }

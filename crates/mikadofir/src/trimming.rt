@@ -2,13 +2,10 @@
 use crate::domains::Book;
 use crate::job::Task;
 use notation::bytes::Listed;
-use notation::kinds::Written;
-use notation::outputs::Outputs;
+use notation::outputs::{Counts, Outputs};
 use notation::schemas::Tables;
-use notation::symbols::symbols;
 use notation::trouble::Trouble;
-use notation::words::{Words, end};
-use std::alloc::Global;
+use notation::words::Words;
 use std::fmt;
 
 /// Room for the transitions of the most states, 64, under the most symbols, 32.
@@ -20,15 +17,8 @@ const STATE_BYTES: usize = 64 * 4;
 /// Room for 16 rows of each of 64 states, each with an end mark and 32 entries.
 const ROW_BYTES: usize = 64 * 16 * 33;
 
-/// How many states and rows a schema has.
-#[derive(Clone, Copy)]
-struct Counts {
-    states: usize,
-    rows: usize,
-}
-
 /// A trimmed schema: its symbol count, its counts before and after, and its tables.
-#[derive(Drop)]
+#[derive(Debug, Drop, PartialEq, Eq)]
 pub struct Trimmed {
     symbols: usize,
     before: Counts,
@@ -49,31 +39,27 @@ impl fmt::Display for Trimmed {
 }
 
 /// The schema of the next words, behind the symbols that it is trimmed to.
-fn reduced<'a>(heap: Global, words: &mut Words<'a>) -> Result<Trimmed, Trouble<'a>> {
-    let permitted = symbols(words)?;
-    let read: Tables<Book> = Tables::read(heap, words)?;
-    end(words)?;
+fn reduced<'a>(words: &mut Words<'a>) -> Result<Trimmed, Trouble<'a>> {
+    let permitted = words.symbols()?;
+    let read: Tables<Book> = Tables::read(words)?;
+    words.end()?;
     let schema = read.schema();
-    let mut tables = Outputs::new(heap, TRANSITION_BYTES, STATE_BYTES, ROW_BYTES, 0)?;
-    match tables.trim(&schema, permitted) {
-        Ok((states, rows)) => {
-            tables.shorten(schema.symbols, states, rows);
-            Ok(Trimmed {
-                symbols: schema.symbols,
-                before: Counts {
-                    states: schema.states,
-                    rows: schema.rows,
-                },
-                after: Counts { states, rows },
-                tables,
-            })
-        }
-        Err(refusal) => Err(Trouble::Refused(refusal)),
-    }
+    let mut tables = Outputs::new(words.heap, TRANSITION_BYTES, STATE_BYTES, ROW_BYTES, 0)?;
+    let after = tables.trim(&schema, permitted)?;
+    tables.shorten(schema.symbols, after);
+    Ok(Trimmed {
+        symbols: schema.symbols,
+        before: Counts {
+            states: schema.states,
+            rows: schema.rows,
+        },
+        after,
+        tables,
+    })
 }
 
 /// The task.
-#[derive(Clone, Copy)]
+#[derive(Clone, Copy, Debug, PartialEq, Eq)]
 pub struct Trim;
 
 impl Task for Trim {
@@ -81,12 +67,12 @@ impl Task for Trim {
 
     fn outcome<'a>(
         &mut self,
-        heap: Global,
         kind: &'a str,
         words: &mut Words<'a>,
     ) -> Result<Trimmed, Trouble<'a>> {
+        // Spelled out, as in each task: a test of the kind that tasks share would be no shorter than the arm that it saves.
         match kind {
-            "schema" => reduced(heap, words),
+            "schema" => reduced(words),
             _ => Err(Trouble::Unreadable(kind)),
         }
     }

@@ -2,11 +2,11 @@
 ghost use Rattle.std.specs.Prelude.{◌<◌};
 ghost use Rattle.std.specs.Option.{SomeIff};
 ghost use Rattle.std.specs.Str.Parse.{IsNumeral, digits_value};
+ghost use Rattle.notation.specs.Words.{Takes, ListOf};
 
-use crate::lists::{Part, list};
+use crate::lists::{Part, list, write_list};
 use crate::trouble::Trouble;
-use crate::words::{Words, digits, word};
-use std::alloc::Global;
+use crate::words::{Words, digits};
 use std::fmt;
 
 /// The byte that a text says, or none where it says no number below 256.
@@ -22,28 +22,21 @@ impl Part for u8 {
     }
 }
 
-/// The bytes that the next word says.
-pub fn bytes<'a>(heap: Global, words: &mut Words<'a>) -> Result<Vec<u8>, Trouble<'a>> {
-    list(heap, word(words)?)
+impl<'a> Words<'a> {
+    /// The bytes that the next word says.
+    pub fn bytes(&mut self) -> Result<Vec<u8>, Trouble<'a>>
+        ensures { Takes self.old.left self.new.left ListOf result }
+    {
+        list(self.heap, self.word()?)
+    }
 }
 
 /// Bytes to be printed.
-#[derive(Clone, Copy)]
+#[derive(Clone, Copy, Debug, PartialEq, Eq)]
 pub struct Listed<'a>(pub &'a [u8]);
 
 impl<'a> fmt::Display for Listed<'a> {
     fn fmt<W: fmt::Write>(&self, f: &mut fmt::Formatter<W>) -> fmt::Result {
-        if self.0.is_empty() {
-            return write!(f, "-");
-        }
-        let mut is_first = true;
-        for byte in self.0 {
-            if !is_first {
-                write!(f, ",")?;
-            }
-            write!(f, "{byte}")?;
-            is_first = false;
-        }
-        Ok(())
+        write_list(self.0.iter(), f)
     }
 }

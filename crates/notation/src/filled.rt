@@ -5,13 +5,12 @@ use crate::trouble::Trouble;
 use std::alloc::Global;
 
 /// That many times the item.
+// By a closure and not by `vec!`, which asks for a clone: what the clone of a type that is copied gives is known of no `T`.
 pub fn filled<'a, T: Copy>(heap: Global, count: usize, item: T) -> Result<Vec<T>, Trouble<'a>>
     ensures length { IfOk result (λ v. vec_len v ≡ count) }
     ensures items { IfOk result (λ v. v.items ≡ replicate count item) }
 {
     let mut list = Vec::new(heap);
-    while list.len() < count {
-        list.push(item)?;
-    }
+    list.resize_with(count, || item)?;
     Ok(list)
 }

@@ -13,5 +13,7 @@ pub mod ranges;
 pub mod schemas;
 pub mod states;
 pub mod symbols;
+#[cfg(test)]
+mod tests;
 pub mod trouble;
 pub mod words;

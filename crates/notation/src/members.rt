@@ -1,13 +1,14 @@
 //! Sets of small numbers as text: numbers below 64 joined by commas, `0,3,7`, and `-` for none.
-ghost use Rattle.std.specs.Prelude.{◌^◌, ◌<◌};
+ghost use Rattle.std.specs.Prelude.{◌^◌, ◌<◌, Some};
 ghost use Rattle.std.specs.Option.{SomeIff};
 ghost use Rattle.std.specs.Str.Parse.{IsNumeral, digits_value};
+ghost use Rattle.notation.specs.Words.{SetOf};
 
 use crate::trouble::Trouble;
 use crate::words::digits;
 
 /// The number with this bit alone, or none past the last bit.
-fn bit(member: u32) -> Option<u64>
+pub(crate) fn bit(member: u32) -> Option<u64>
     ensures { SomeIff result (member < 64) (2 ^ member) }
 {
     1u64.checked_shl(member)
@@ -21,13 +22,14 @@ fn member(text: &str) -> Option<u64>
 }
 
 /// The numbers that a word says, one a bit. A number may stand in it more than once.
-pub fn members(word: &str) -> Result<u64, Trouble<'_>> {
-    let mut bits = 0;
+// No list of bits that are then joined: a set is read without memory, so that only the word itself can refuse it.
+pub fn members(word: &str) -> Result<u64, Trouble<'_>>
+    ensures { SetOf (Some word.entry) result }
+{
     if word == "-" {
-        return Ok(bits);
+        return Ok(0);
     }
-    for text in word.split(',') {
-        bits |= member(text).ok_or(Trouble::Unreadable(word))?;
-    }
-    Ok(bits)
+    word.split(',')
+        .try_fold(0, |bits, text| Some(bits | member(text)?))
+        .ok_or(Trouble::Unreadable(word))
 }

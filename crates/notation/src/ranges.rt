@@ -23,8 +23,5 @@ impl Part for Range {
 pub fn covered<'a>(list: &[Range]) -> Result<Coverage, Trouble<'a>>
     ensures { IfErr result (λ e. (x : Refusal) × (e ≡ Refused x)) }
 {
-    match Coverage::new(list) {
-        Ok(coverage) => Ok(coverage),
-        Err(refusal) => Err(Trouble::Refused(refusal)),
-    }
+    Ok(Coverage::new(list)?)
 }

@@ -1,15 +1,13 @@
 //! Schemas as text: `SYMBOLS STATES ROWS TRANSITIONS STATES ROWS DOMAINS`, three counts, three tables, and the domains behind their count.
 ghost use Rattle.std.specs.Prelude.{◌≡◌};
 
-use crate::bytes::bytes;
 use crate::kinds::Written;
 use crate::trouble::Trouble;
-use crate::words::{Words, number};
+use crate::words::Words;
 use api::Schema;
-use std::alloc::Global;
 
 /// The counts, tables and domains that a text said. Whether they make a schema is not asked.
-#[derive(Drop)]
+#[derive(Debug, Drop, PartialEq, Eq)]
 pub struct Tables<D> {
     symbols: usize,
     states: usize,
@@ -21,25 +19,24 @@ pub struct Tables<D> {
 }
 
 /// The domains that the next words say, behind their count.
-fn domains<'a, D: Written>(heap: Global, words: &mut Words<'a>) -> Result<Vec<D>, Trouble<'a>> {
-    let mut list = Vec::new(heap);
-    for _ in 0..number(words)? {
-        list.push(D::read(heap, words)?)?;
-    }
-    Ok(list)
+fn domains<'a, D: Written>(words: &mut Words<'a>) -> Result<Vec<D>, Trouble<'a>> {
+    let heap = words.heap;
+    (0..words.number()?)
+        .map(|_| D::read(words))
+        .try_collect(heap)
 }
 
 impl<D: Written> Tables<D> {
     /// What the next words say. They alone are taken, however many follow.
-    pub fn read<'a>(heap: Global, words: &mut Words<'a>) -> Result<Tables<D>, Trouble<'a>> {
+    pub fn read<'a>(words: &mut Words<'a>) -> Result<Tables<D>, Trouble<'a>> {
         Ok(Tables {
-            symbols: number(words)? as usize,
-            states: number(words)? as usize,
-            rows: number(words)? as usize,
-            transitions: bytes(heap, words)?,
-            state_table: bytes(heap, words)?,
-            row_table: bytes(heap, words)?,
-            domains: domains(heap, words)?,
+            symbols: words.number()? as usize,
+            states: words.number()? as usize,
+            rows: words.number()? as usize,
+            transitions: words.bytes()?,
+            state_table: words.bytes()?,
+            row_table: words.bytes()?,
+            domains: domains(words)?,
         })
     }
 }

@@ -1,27 +1,55 @@
 //! Words and the numbers in them: what every text form is made of.
-ghost use Rattle.std.specs.Prelude.{◌^◌, ◌<◌};
-ghost use Rattle.std.specs.Option.{SomeIff};
+ghost use Rattle.std.specs.Prelude.{◌≡◌, ◌^◌, ◌<◌};
+ghost use Rattle.std.specs.Option.{SomeIff, ok_or};
+ghost use Rattle.std.specs.Str.Iter.{split_whitespace_rest};
 ghost use Rattle.std.specs.Str.Parse.{IsNumeral, digits_value};
+ghost use Rattle.notation.specs.Words.{Takes, NumberOf, EndOf};
 
 use crate::trouble::Trouble;
+use std::alloc::Global;
 use std::str::SplitWhitespace;
 
-/// The words of a line that are still to be read.
-pub type Words<'a> = SplitWhitespace<'a>;
-
-/// The next word.
-pub fn word<'a>(words: &mut Words<'a>) -> Result<&'a str, Trouble<'a>> {
-    match words.next() {
-        Some(word) => Ok(word),
-        None => Err(Trouble::Ended),
-    }
+/// The words of a line that are still to be read, and where the lists that they say are kept.
+#[derive(Drop)]
+pub struct Words<'a> {
+    pub heap: Global,
+    left: SplitWhitespace<'a>,
 }
 
-/// Nothing, where no word is left; a word too many is not read over.
-pub fn end<'a>(words: &mut Words<'a>) -> Result<(), Trouble<'a>> {
-    match words.next() {
-        Some(word) => Err(Trouble::Unreadable(word)),
-        None => Ok(()),
+impl<'a> Words<'a> {
+    /// The words of a line, all of them still to be read.
+    pub fn new(heap: Global, line: &'a str) -> Words<'a>
+        ensures { split_whitespace_rest result.left ≡ line.now }
+    {
+        Words {
+            heap,
+            left: line.split_whitespace(),
+        }
+    }
+
+    /// The next word.
+    pub fn word(&mut self) -> Result<&'a str, Trouble<'a>>
+        ensures { Takes self.old.left self.new.left (λ w r. r ≡ ok_or w Trouble.Ended) result }
+    {
+        self.left.next().ok_or(Trouble::Ended)
+    }
+
+    /// Nothing, where no word is left; a word too many is not read over.
+    pub fn end(&mut self) -> Result<(), Trouble<'a>>
+        ensures { Takes self.old.left self.new.left EndOf result }
+    {
+        match self.left.next() {
+            Some(word) => Err(Trouble::Unreadable(word)),
+            None => Ok(()),
+        }
+    }
+
+    /// The number that the next word says.
+    pub fn number(&mut self) -> Result<u32, Trouble<'a>>
+        ensures { Takes self.old.left self.new.left NumberOf result }
+    {
+        let word = self.word()?;
+        digits(word).ok_or(Trouble::Unreadable(word))
     }
 }
 
@@ -33,12 +61,6 @@ pub fn digits(text: &str) -> Option<u32>
         return None;
     }
     text.parse::<u32>().ok()
-}
-
-/// The number that the next word says.
-pub fn number<'a>(words: &mut Words<'a>) -> Result<u32, Trouble<'a>> {
-    let word = word(words)?;
-    digits(word).ok_or(Trouble::Unreadable(word))
 }
 
 /// Whether a line is there for its reader alone: blank, or a comment behind '#'.

@@ -5,7 +5,7 @@ ghost use Rattle.refusal.specs.Faults.{number, layer, Numbered};
 /// What a call may say no for, in the order of the numbers 1 to 21.
 #[derive(Clone, Copy, Debug, PartialEq, Eq)]
 pub enum Fault {
-    Size,
+    Size = 1,
     State,
     Row,
     Domain,
@@ -49,7 +49,14 @@ impl Fault {
         ensures value { result ≡ number self }
         ensures distinct { Numbered }
     {
-        self as u32 + 1
+        self as u32
+    }
+
+    /// The refusal for the fault at a place.
+    pub fn at(self, place: usize) -> Refusal
+        ensures { result ≡ record { fault = self; place = place } }
+    {
+        Refusal { fault: self, place }
     }
 
     /// The layer that the fault lies in.
@@ -70,7 +77,7 @@ impl Fault {
             | Fault::Symbol
             | Fault::Deep
             | Fault::Rest
-            | Fault::Room => { Layer::Bytes }
+            | Fault::Room => Layer::Bytes,
             _ => Layer::Tables,
         }
     }

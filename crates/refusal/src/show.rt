@@ -1,10 +1,19 @@
-//! How a refusal is printed: number, word, layer and place.
+//! How faults, layers and refusals are printed: a refusal by number, word, layer and place.
 ghost use Rattle.std.specs.Prelude.{Some};
-ghost use Rattle.refusal.specs.Words.{layer_word, printed};
+ghost use Rattle.refusal.specs.Faults.{number};
+ghost use Rattle.refusal.specs.Words.{layer_word, printed, «word_at»};
 
-use crate::fault::{Layer, Refusal};
+use crate::fault::{Fault, Layer, Refusal};
 use crate::words::word;
 use std::fmt;
+
+impl fmt::Display for Fault {
+    ghost output = { λ f. Some (word_at (number f)) };
+
+    fn fmt<W: fmt::Write>(&self, f: &mut fmt::Formatter<W>) -> fmt::Result {
+        f.write_str(word(self.number()))
+    }
+}
 
 impl fmt::Display for Layer {
     ghost output = { λ l. Some (layer_word l) };
@@ -23,10 +32,10 @@ impl fmt::Display for Refusal {
     ghost output = { λ e. Some (printed e) };
 
     fn fmt<W: fmt::Write>(&self, f: &mut fmt::Formatter<W>) -> fmt::Result {
-        let number = self.fault.number();
-        let word = word(number);
-        let layer = self.fault.layer();
+        let fault = self.fault;
+        let number = fault.number();
+        let layer = fault.layer();
         let place = self.place;
-        write!(f, "{number} {word}, {layer}, place {place}")
+        write!(f, "{number} {fault}, {layer}, place {place}")
     }
 }

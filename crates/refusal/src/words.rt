@@ -21,8 +21,5 @@ pub fn word(number: u32) -> &'static str
 fn entry(table: &[&'static str], index: usize) -> &'static str
     ensures { result.now ≡ slice_index_or (map (λ x. x.now) table.now) index [] }
 {
-    match table.get(index) {
-        Some(text) => text,
-        None => "",
-    }
+    table.get(index).copied().unwrap_or("")
 }

@@ -1,5 +1,6 @@
 -- A tree is accepted exactly when its nodes can be bound to states, and then in one way only. Assumes nothing.
 use Rattle.std.proofs.Common.{◌≡◌, ℕ, Bool, true, Some, None, Option, sym, refl, ap, ◌∙◌, subst}
+use Rattle.std.proofs.lemmas.Option.{same_Some}
 use Rattle.std.proofs.lemmas.Bool.{and_parts, and_from, false≢true}
 use Rattle.codec.specs.Trees.{Tree, node, Children, none, child, word}
 use Rattle.schema.specs.Automata.{Automaton, passes, allowed, accepts, accepts_all}
@@ -39,9 +40,6 @@ module _ (A : Automaton) where
     accept_all q (child a t cs) (beside b bs) bound =
         and_from _ _ (subst (λ o. passes o (λ s. accepts A s t) ≡ true) (sym bound.0) (accept t b bound.1)) (accept_all q cs bs bound.2)
 
-  some_same : {x y : ℕ} → ◌≡◌ {A = Option ℕ} (Some x) (Some y) → x ≡ y
-  some_same e = cc
-
   mutual
     one : (t : Tree) (b c : States) → root b ≡ root c → Bound A t b → Bound A t c → b ≡ c
     one (node v cs) (at q bs) (at p ds) same first second = λ i. at (same i) (one_all q p cs bs ds same first.2 second.2 i)
@@ -53,7 +51,7 @@ module _ (A : Automaton) where
     one_all q p (child a t cs) leaf ds same first second = absurd first
     one_all q p (child a t cs) (beside b bs) leaf same first second = absurd second
     one_all q p (child a t cs) (beside b bs) (beside d ds) same first second =
-        let roots : root b ≡ root d = some_same (sym first.0 ∙ ap (λ (k : ℕ). A.next k a) same ∙ second.0) in
+        let roots : root b ≡ root d = same_Some _ _ (sym first.0 ∙ ap (λ (k : ℕ). A.next k a) same ∙ second.0) in
         λ i. beside (one t b d roots first.1 second.1 i) (one_all q p cs bs ds same first.2 second.2 i)
 
 pub accepted_is_bound : AcceptedIsBound

@@ -1,5 +1,5 @@
 -- How many numbers below a bound pass a test. Assumes nothing.
-use Rattle.std.proofs.Common.{◌≡◌, ℕ, zero, suc, ◌<◌, ◌≤◌, Bool, true, false, cond, refl, ap, subst, ⊎_elim, arith}
+use Rattle.std.proofs.Common.{◌≡◌, ℕ, zero, suc, ◌+◌, ◌<◌, ◌≤◌, Bool, true, false, cond, refl, ap, subst, ⊎_elim, arith}
 use Rattle.std.proofs.lemmas.Bool.{cases_lt}
 use Rattle.schema.specs.Below.{count_below}
 
@@ -11,6 +11,15 @@ count_le (suc k) test = omega (arith, count_le k test, at_most (test k))
     at_most : (b : Bool) → cond b 1 0 ≤ 1
     at_most true = omega arith
     at_most false = omega arith
+
+-- where as many pass as there are numbers, each passes
+pub count_full : (test : ℕ → Bool) (k : ℕ) → k ≤ count_below k test → (i : ℕ) → i < k → test i ≡ true
+count_full test zero all i low = absurd (omega arith)
+count_full test (suc k) all i low = by (test k) refl all (λ rest l. count_full test k rest i l)
+  where
+    by : (b : Bool) → test k ≡ b → suc k ≤ count_below k test + cond b 1 0 → (k ≤ count_below k test → i < k → test i ≡ true) → test i ≡ true
+    by true last all below = ⊎_elim (below (omega (arith, all))) (λ g. let same : k ≡ i = omega arith in subst (λ (n : ℕ). test n ≡ true) same last) (cases_lt i k)
+    by false last all below = absurd (omega (arith, all, count_le k test))
 
 module _ (test more : ℕ → Bool) (kept : (i : ℕ) → test i ≡ true → more i ≡ true) where
   each : (k : ℕ) → cond (test k) 1 0 ≤ cond (more k) 1 0

@@ -1,14 +1,17 @@
 -- Numbers gathered along edges, and the rows that sequences lead to. Assumes nothing.
-use Rattle.std.proofs.Common.{◌≡◌, ℕ, ◌+◌, ◌<◌, ◌≤◌, Bool, true, false, cond, ◌&&◌, ◌||◌, eqb, ltb, ◌⊎◌, List, [], ◌∷◌, ◌++◌, Some, None, Option, sym, refl, ap, ◌∙◌, subst, inl, inr, ⊎_elim, append-nil, arith}
+use Rattle.std.proofs.Common.{◌≡◌, ℕ, ◌+◌, ◌<◌, ◌≤◌, Bool, true, false, cond, ◌&&◌, ◌||◌, eqb, ltb, ◌⊎◌, List, [], ◌∷◌, ◌++◌, Some, None, Option, Decides, sym, refl, ap, ◌∙◌, subst, inl, inr, ⊎_elim, append-nil, arith}
 use Rattle.std.specs.List.{AllByRecursion}
 use Rattle.std.proofs.ByRecursion.{All-push}
+use Rattle.std.proofs.lemmas.Option.{none-some, same_Some}
 use Rattle.std.proofs.lemmas.Bool.{and_parts, and_from, and_right, both_ways, cases_Bool, cases_lt, eqb-true, eq-eqb, lt-ltb, not_from_false, or_cases, or_left, or_right}
 use Rattle.domain.specs.Kinds.{bit, in_bits}
 use Rattle.domain.specs.Sets.{Empty, First, alone}
 use Rattle.schema.proofs.Bound.{passed}
 use Rattle.schema.proofs.Members.{bit_zero}
+use Rattle.schema.proofs.Searches.{some_found, some_tells}
 use Rattle.schema.specs.Automata.{Automaton, passes, row_runs}
-use Rattle.schema.specs.Rows.{onward, leads, After, AfterEdge, RowEdge, RunsOverFrom, LeadsOver, Reached, ReachedFrom}
+use Rattle.schema.specs.Below.{some_below}
+use Rattle.schema.specs.Rows.{onward, leads, AfterEdge, LedOnto, RowEdge, RunsOverFrom, LeadsOver, ReachedFrom}
 
 -- a member of a set with one more
 pub in_one_more : (set more k i : ℕ) → bit more i ≡ (bit set i || (ltb k 64 && eqb k i)) → bit more i ≡ true → (bit set i ≡ true) ⊎ (k ≡ i)
@@ -21,58 +24,53 @@ one_more_keeps set more k i adds there = adds ∙ or_left (bit set i) _ there
 pub one_more_has : (set more k : ℕ) → bit more k ≡ (bit set k || (ltb k 64 && eqb k k)) → k < 64 → bit more k ≡ true
 one_more_has set more k adds inside = adds ∙ or_right (bit set k) _ (and_from _ _ (lt-ltb k 64 inside) (eq-eqb k k refl))
 
-module _ (Edge : ℕ → ℕ → ℕ → Type 0) (p before : ℕ) where
-  -- the edges from p whose label is below k
-  abbrev pub Upto : ℕ → ℕ → ℕ → ℕ → Type 0
-  Upto k i a j = (a < k) × Edge i a j
+-- one number more, and where it leads
+module _ (Leads : ℕ → Option ℕ → Type 0) (before : ℕ) where
+  found_wider : (k i : ℕ) → (a : ℕ) × (a < k) × Leads a (Some i) → (a : ℕ) × (a < k + 1) × Leads a (Some i)
+  found_wider k i m = (m.0, omega (arith, m.1), m.2)
 
-  pub after_none : AfterEdge (Upto 0) p before before
-  after_none = record { kept = λ i h. h; added = λ a j e low. absurd (omega (arith, e.0)); only = λ i h. inl h }
-
-  wider : (k i : ℕ) → (a : ℕ) × Upto k p a i → (a : ℕ) × Upto (k + 1) p a i
-  wider k i m = (m.0, (omega (arith, m.1.0), m.1.1))
-
-  -- one label more, which leads nowhere
-  pub after_same : (k reached : ℕ) → AfterEdge (Upto k) p before reached → ((j : ℕ) → Edge p k j → ⊥) → AfterEdge (Upto (k + 1)) p before reached
-  after_same k reached so nothing =
-      record {
-        kept = so.kept;
-        added = λ a j e low.
-            ⊎_elim
-            (λ l. so.added a j (l, e.1) low)
-            (λ g. let last : a ≡ k = omega (arith, e.0) in absurd (nothing j (subst (λ (n : ℕ). Edge p n j) last e.1)))
-            (cases_lt a k);
-        only = λ i h. ⊎_elim inl (λ m. inr (wider k i m)) (so.only i h);
-      }
-
-  -- one label more, which leads to a number
-  pub after_more : (k reached more next : ℕ) → AfterEdge (Upto k) p before reached → Edge p k next → ((j : ℕ) → Edge p k j → next ≡ j) → ((i : ℕ) → bit more i ≡ (bit reached i || (ltb next 64 && eqb next i))) → AfterEdge (Upto (k + 1)) p before more
-  after_more k reached more next so here one adds =
+  pub led_more : (k reached more : ℕ) (o : Option ℕ) (next : ℕ) → LedOnto Leads k before reached → Leads k o → o ≡ Some next → ((i : ℕ) → bit more i ≡ (bit reached i || (ltb next 64 && eqb next i))) → LedOnto Leads (k + 1) before more
+  led_more k reached more o next so here is adds =
       record {
         kept = λ i h. one_more_keeps reached more next i (adds i) (so.kept i h);
-        added = λ a j e low.
+        added = λ a low.
             ⊎_elim
-            (λ l. one_more_keeps reached more next j (adds j) (so.added a j (l, e.1) low))
-            (λ g.
-            let last : a ≡ k = omega (arith, e.0) in
-            let same : next ≡ j = one j (subst (λ (n : ℕ). Edge p n j) last e.1) in
-            subst (λ (n : ℕ). bit more n ≡ true) same (one_more_has reached more next (adds next) (omega arith)))
+            (λ l. let old = so.added a l in (old.0, old.1, λ i same inside. one_more_keeps reached more next i (adds i) (old.2 i same inside)))
+            (λ up.
+            let last : k ≡ a = omega (arith, low) in
+            (o, subst (λ (n : ℕ). Leads n o) last here, λ i same inside. let e : next ≡ i = same_Some _ _ (sym is ∙ same) in subst (λ (n : ℕ). bit more n ≡ true) e (one_more_has reached more next (adds next) (omega (arith, e, inside)))))
             (cases_lt a k);
         only = λ i h.
             ⊎_elim
-            (λ old. ⊎_elim inl (λ m. inr (wider k i m)) (so.only i old))
-            (λ e. inr (k, (omega arith, subst (Edge p k) e here)))
+            (λ old. ⊎_elim inl (λ m. inr (found_wider k i m)) (so.only i old))
+            (λ e. inr (k, omega arith, subst (Leads k) (is ∙ ap Some e) here))
             (in_one_more reached more next i (adds i) h);
       }
 
-  -- all labels that lead anywhere were tried
-  pub after_all : (k reached : ℕ) → ((a j : ℕ) → Edge p a j → a < k) → AfterEdge (Upto k) p before reached → AfterEdge Edge p before reached
-  after_all k reached all so =
+  pub led_nowhere : (k reached : ℕ) (o : Option ℕ) → LedOnto Leads k before reached → Leads k o → o ≡ None → LedOnto Leads (k + 1) before reached
+  led_nowhere k reached o so here none =
       record {
         kept = so.kept;
-        added = λ a j e low. so.added a j (all a j e, e) low;
-        only = λ i h. ⊎_elim inl (λ m. inr (m.0, m.1.1)) (so.only i h);
+        added = λ a low.
+            ⊎_elim
+            (so.added a)
+            (λ up. let last : k ≡ a = omega (arith, low) in (o, subst (λ (n : ℕ). Leads n o) last here, λ i same inside. absurd (none-some i (sym none ∙ same))))
+            (cases_lt a k);
+        only = λ i h. ⊎_elim inl (λ m. inr (found_wider k i m)) (so.only i h);
       }
+
+  pub led_all : (k n reached : ℕ) → k ≤ n → n ≤ k → LedOnto Leads k before reached → LedOnto Leads n before reached
+  led_all k n reached upto past so = let e : k ≡ n = omega arith in subst (λ (m : ℕ). LedOnto Leads m before reached) e so
+
+-- what the numbers below n lead to, where they lead along the edges from p
+pub edges_of_led : {Leads : ℕ → Option ℕ → Type 0} (Edge : ℕ → ℕ → ℕ → Type 0) (p n before after : ℕ) (step : ℕ → Option ℕ) → ((a j : ℕ) → Edge p a j → (a < n) × (step a ≡ Some j)) → ((a j : ℕ) → step a ≡ Some j → Edge p a j) → ((a : ℕ) (o : Option ℕ) → a < n → Leads a o → o ≡ step a) → LedOnto Leads n before after
+    → AfterEdge Edge p before after
+edges_of_led Edge p n before after step leads edge told so =
+    record {
+      kept = so.kept;
+      added = λ a j e low. let at = leads a j e in let added = so.added a at.0 in added.2 j (told a added.0 at.0 added.1 ∙ at.1) low;
+      only = λ i h. ⊎_elim inl (λ m. inr (m.0, edge m.0 i (sym (told m.0 (Some i) m.1 m.2)))) (so.only i h);
+    }
 
 -- what a set gathers along edges from a number on: each has the property, which the edges carry over
 module _ (Edge : ℕ → ℕ → ℕ → Type 0) (Good : ℕ → Type 0) (from : ℕ) where
@@ -130,51 +128,29 @@ module _ (Edge : ℕ → ℕ → ℕ → Type 0) (Good : ℕ → Type 0) (from :
 -- what is there under a test, and what is not
 pub chosen_some : (b : Bool) (o : Option ℕ) (x : ℕ) → cond b o None ≡ Some x → (b ≡ true) × (o ≡ Some x)
 chosen_some true o x is = (refl, is)
-chosen_some false o x is = absurd (let z : ◌≡◌ {A = ℕ} 0 1 = cc in omega arith)
-
-pub chosen_none : (b : Bool) (o : Option ℕ) (x : ℕ) → cond b o None ≡ None → b ≡ true → o ≡ Some x → ⊥
-chosen_none true o x none in-it is = let z : ◌≡◌ {A = ℕ} 0 1 = cc (sym none ∙ is) in omega arith
-chosen_none false o x none in-it is = both_ways false refl in-it
-
--- what is there is one thing
-pub some_same : {x y : ℕ} → ◌≡◌ {A = Option ℕ} (Some x) (Some y) → x ≡ y
-some_same e = cc
+chosen_some false o x is = absurd (none-some x is)
 
 module _ (A : Automaton) (q : ℕ) (set : ℕ → Bool) where
   -- a sequence and one symbol more
   leads_push : (w : List ℕ) (r i a j : ℕ) → leads A q r w ≡ Some i → A.step q i a ≡ Some j → leads A q r (w ++ a ∷ []) ≡ Some j
-  leads_push [] r i a j to is = ap (λ o. onward o Some) (ap (λ (n : ℕ). A.step q n a) (some_same to) ∙ is)
+  leads_push [] r i a j to is = ap (λ o. onward o Some) (ap (λ (n : ℕ). A.step q n a) (same_Some _ _ to) ∙ is)
   leads_push (b ∷ w) r i a j to is = by (A.step q r b) (λ s h. leads_push w s i a j h is) to
     where
       by : (o : Option ℕ) → ((s : ℕ) → leads A q s w ≡ Some i → leads A q s (w ++ a ∷ []) ≡ Some j) → onward o (λ s. leads A q s w) ≡ Some i → onward o (λ s. leads A q s (w ++ a ∷ [])) ≡ Some j
       by (Some s) more to = more s to
-      by None more to = absurd (let z : ◌≡◌ {A = ℕ} 0 1 = cc in omega arith)
+      by None more to = absurd (none-some i to)
 
   pub leads_on : (r i a j : ℕ) → LeadsOver A q set r i → RowEdge A q set i a j → LeadsOver A q set r j
   leads_on r i a j so edge = (so.0 ++ a ∷ [], All-push (λ b. set b ≡ true) so.0 a so.1 edge.0, leads_push so.0 r i a j so.2 edge.1)
 
-  -- one symbol of the set is an edge
-  pub after_edge : (r before after : ℕ) → After A q set r before after → AfterEdge (RowEdge A q set) r before after
-  after_edge r before after so = record { kept = so.kept; added = λ a j e. so.added a j e.0 e.1; only = λ i h. ⊎_elim inl (λ m. inr (m.0, (m.1, m.2))) (so.only i h) }
-
-  pub after_symbol : (r before after : ℕ) → AfterEdge (RowEdge A q set) r before after → After A q set r before after
-  after_symbol r before after so = record { kept = so.kept; added = λ a j in-set is. so.added a j (in-set, is); only = λ i h. ⊎_elim inl (λ m. inr (m.0, m.1.0, m.1.1)) (so.only i h) }
-
-  -- what is reached from the first row
-  pub reached_from_first : (rows : ℕ) → Reached A q set rows → ReachedFrom A q set 0 rows
-  reached_from_first rows so = record { start = so.start; closed = λ i a j here e. so.closed i a j here e.0 e.1; only = so.only }
-
-  pub first_reaches : (rows : ℕ) → ReachedFrom A q set 0 rows → Reached A q set rows
-  first_reaches rows so = record { start = so.start; closed = λ i a j here in-set is. so.closed i a j here (in-set, is); only = so.only }
-
   -- a sequence that leads to a row from which another runs
   pub runs_on : (w u : List ℕ) (r i : ℕ) → leads A q r w ≡ Some i → row_runs A q i u ≡ true → row_runs A q r (w ++ u) ≡ true
-  runs_on [] u r i to runs = subst (λ (n : ℕ). row_runs A q n u ≡ true) (sym (some_same to)) runs
+  runs_on [] u r i to runs = subst (λ (n : ℕ). row_runs A q n u ≡ true) (sym (same_Some _ _ to)) runs
   runs_on (a ∷ w) u r i to runs = by (A.step q r a) (λ s h. runs_on w u s i h runs) to
     where
       by : (o : Option ℕ) → ((s : ℕ) → leads A q s w ≡ Some i → row_runs A q s (w ++ u) ≡ true) → onward o (λ s. leads A q s w) ≡ Some i → passes o (λ s. row_runs A q s (w ++ u)) ≡ true
       by (Some s) more to = more s to
-      by None more to = absurd (let z : ◌≡◌ {A = ℕ} 0 1 = cc in omega arith)
+      by None more to = absurd (none-some i to)
 
   -- a sequence that leads to a row where it may end runs there
   pub ends_runs : (r i : ℕ) → LeadsOver A q set r i → A.ends q i ≡ true → RunsOverFrom A q set r
@@ -189,9 +165,22 @@ module _ (A : Automaton) (q : ℕ) (set : ℕ → Bool) where
 
   -- a sequence leads from a row of the state to a row of the state
   pub leads_inside : (count : ℕ) → ((i a j : ℕ) → i < count → A.step q i a ≡ Some j → j < count) → (w : List ℕ) (r i : ℕ) → r < count → leads A q r w ≡ Some i → i < count
-  leads_inside count stays [] r i low to = subst (λ (n : ℕ). n < count) (some_same to) low
+  leads_inside count stays [] r i low to = subst (λ (n : ℕ). n < count) (same_Some _ _ to) low
   leads_inside count stays (a ∷ w) r i low to = by (A.step q r a) (λ s is h. leads_inside count stays w s i (stays r a s low is) h) refl to
     where
       by : (o : Option ℕ) → ((s : ℕ) → A.step q r a ≡ Some s → leads A q s w ≡ Some i → i < count) → A.step q r a ≡ o → onward o (λ s. leads A q s w) ≡ Some i → i < count
       by (Some s) more is to = more s is to
-      by None more is to = absurd (let z : ◌≡◌ {A = ℕ} 0 1 = cc to in omega arith)
+      by None more is to = absurd (none-some i to)
+
+  -- whether a row that was reached may end decides whether some sequence over the set runs from there
+  pub ends_decide : (count : ℕ) → ((i a j : ℕ) → i < count → A.step q i a ≡ Some j → j < count) → (from rows : ℕ) → from < count → ReachedFrom A q set from rows → Decides (some_below count (λ i. bit rows i && A.ends q i)) (RunsOverFrom A q set from)
+  ends_decide count stays from rows inside all = (
+    λ found.
+        let at = some_tells (λ i. bit rows i && A.ends q i) count found in
+        let parts = and_parts (bit rows at.0) (A.ends q at.0) at.2 in
+        ends_runs from at.0 (all.only at.0 parts.0) parts.1,
+    λ runs.
+        let at = ends_reached from rows all runs.0 from all.start runs.1 runs.2 in
+        let w = all.only at.0 at.1 in
+        some_found (λ i. bit rows i && A.ends q i) count at.0 (leads_inside count stays w.0 from at.0 inside w.2) (and_from _ _ at.1 at.2),
+  )

@@ -1,4 +1,5 @@
 pub mod Bound
+pub mod Chains
 pub mod Counting
 pub mod Dead
 pub mod Domains
@@ -6,7 +7,6 @@ pub mod Holding
 pub mod Members
 pub mod Either
 pub mod Gathering
-pub mod Noting
 pub mod Permits
 pub mod Rounds
 pub mod Searches

@@ -1,10 +1,11 @@
 -- Sets of numbers as bits: who is in, and one member more. Assumes nothing.
-use Rattle.std.proofs.Common.{◌≡◌, ℕ, zero, suc, ◌+◌, ◌*◌, ◌/◌, ◌%◌, ◌^◌, ◌<◌, ◌≤◌, max, Bool, true, false, cond, ◌&&◌, ◌||◌, eqb, ltb, sym, refl, ap, ◌∙◌, subst, ⊎_elim, mod-eq_of_lt, add_comm, one-add, arith}
+use Rattle.std.proofs.Common.{◌≡◌, ℕ, zero, suc, ◌+◌, ◌*◌, ◌/◌, ◌%◌, ◌^◌, ◌<◌, ◌≤◌, max, min, Bool, Decides, true, false, cond, ◌&&◌, ◌||◌, eqb, ltb, sym, refl, ap, ◌∙◌, ⊎_elim, mod-eq_of_lt, add_comm, one-add, arith}
 use native.Mathlib.Nat.{div-eq_of_lt}
-use lib.Bits.{bit_and, bit_or, or_add_and, and_le_r, and_mask}
+use lib.Bits.{bit_and, bit_or, or_add_and, and_le_r}
 use lib.Count.{ones, ones_step, ones_cat}
 use Rattle.std.proofs.lemmas.Nat.{one_shl, mod_below, mod-pow-add, pow_below, pow_pos}
-use Rattle.std.proofs.lemmas.Bool.{and_from, and_right, both_ways, cases_eq, cases_lt, eq-eqb, lt-ltb, or_right}
+use Rattle.std.proofs.lemmas.Nat.Bits.{bit_at_and}
+use Rattle.std.proofs.lemmas.Bool.{and_from, both_ways, cases_Bool, cases_lt, eq-eqb, lt-ltb, or_right}
 use Rattle.std.proofs.lemmas.Bool.Decides.{nat_tests}
 use Rattle.domain.specs.Kinds.{bit}
 use Rattle.schema.specs.Below.{count_below}
@@ -42,10 +43,6 @@ grown set k inside out =
     absurd (both_ways (bit set k) out in-it))
     (cases_lt set new)
 
--- a bit read by a shift and a mask
-pub masked : (set k : ℕ) → eqb (bit_and (set / 2 ^ k) 1) 1 ≡ bit set k
-masked set k = ap (λ (n : ℕ). eqb n 1) (and_mask (set / 2 ^ k) 1)
-
 -- nothing is in the empty set
 pub bit_zero : (i : ℕ) → bit 0 i ≡ false
 bit_zero i = ap (λ (n : ℕ). eqb (n % 2) 1) (div-eq_of_lt (pow_pos i))
@@ -57,38 +54,20 @@ bit-bit_or a b i = by (digit (bit_or a b) i) (digit a i) (digit b i) (digit_or a
     by : (d e f : ℕ) → d ≡ max e f → e < 2 → f < 2 → eqb d 1 ≡ (eqb e 1 || eqb f 1)
     by d e f is two two' = grind (arith, nat_tests)
 
-pub or_grown : (a b i : ℕ) → bit a i ≡ false → bit b i ≡ true → a < bit_or a b
-or_grown a b i out there =
-    ⊎_elim (λ h. h)
-    (λ h.
-    let same : bit_or a b ≡ a = omega (arith, or_add_and a b, and_le_r a b) in
-    absurd (both_ways (bit a i) out (sym (ap (λ (n : ℕ). bit n i) same) ∙ bit-bit_or a b i ∙ or_right (bit a i) _ there)))
-    (cases_lt a (bit_or a b))
-
--- the members below k that pass a test, and k
-pub gathered : (test : ℕ → Bool) (set more k : ℕ) → k < 64 → ((i : ℕ) → bit set i ≡ (ltb i k && test i)) → test k ≡ true → ((i : ℕ) → bit more i ≡ (bit set i || (ltb k 64 && eqb k i))) → (i : ℕ) → bit more i ≡ (ltb i (k + 1) && test i)
-gathered test set more k inside so passes adds i =
-    adds i ∙ ap (λ (b : Bool). b || (ltb k 64 && eqb k i)) (so i)
-    ∙ ⊎_elim
-    (λ e. by_eq e)
-    (λ apart. by_apart (test i) apart)
-    (cases_eq k i)
+-- a set with the members of two sets alone
+pub bit-bit_and : (a b i : ℕ) → bit (bit_and a b) i ≡ (bit a i && bit b i)
+bit-bit_and a b i = by (digit (bit_and a b) i) (digit a i) (digit b i) (bit_at_and a b i) (mod_below (a / 2 ^ i) 2 (omega arith)) (mod_below (b / 2 ^ i) 2 (omega arith))
   where
-    by_eq : k ≡ i → ((ltb i k && test i) || (ltb k 64 && eqb k i)) ≡ (ltb i (k + 1) && test i)
-    by_eq e = or_right (ltb i k && test i) _ (and_from _ _ (lt-ltb k 64 inside) (eq-eqb k i e)) ∙ sym (and_from _ _ (lt-ltb i (k + 1) (omega arith)) (subst (λ (n : ℕ). test n ≡ true) e passes))
+    by : (d e f : ℕ) → d ≡ min e f → e < 2 → f < 2 → eqb d 1 ≡ (eqb e 1 && eqb f 1)
+    by d e f is two two' = grind (arith, nat_tests)
 
-    by_apart : (b : Bool) → (k ≡ i → ⊥) → ((ltb i k && b) || (ltb k 64 && eqb k i)) ≡ (ltb i (k + 1) && b)
-    by_apart b apart = grind (arith, nat_tests)
+-- the numbers below a count that were gathered are those that pass
+module _ (set count : ℕ) (inside : (i : ℕ) → bit set i ≡ true → i < count) where
+  pub gathered : (test : ℕ → Bool) → ((i : ℕ) → i < count → bit set i ≡ test i) → ((i : ℕ) → count ≤ i → test i ≡ false) → (i : ℕ) → bit set i ≡ test i
+  gathered test told past i = ⊎_elim (told i) (λ up. ⊎_elim (λ there. absurd (omega (arith, up, inside i there))) (λ out. out ∙ sym (past i up)) (cases_Bool (bit set i))) (cases_lt i count)
 
--- and where k does not pass
-pub passed_over : (test : ℕ → Bool) (set k : ℕ) → ((i : ℕ) → bit set i ≡ (ltb i k && test i)) → test k ≡ false → (i : ℕ) → bit set i ≡ (ltb i (k + 1) && test i)
-passed_over test set k so fails i = so i ∙ ⊎_elim (λ e. by_eq e) (λ apart. by_apart (test i) apart) (cases_eq k i)
-  where
-    by_eq : k ≡ i → (ltb i k && test i) ≡ (ltb i (k + 1) && test i)
-    by_eq e = let out = subst (λ (n : ℕ). test n ≡ false) e fails in and_right (ltb i k) _ out ∙ sym (and_right (ltb i (k + 1)) _ out)
-
-    by_apart : (b : Bool) → (k ≡ i → ⊥) → (ltb i k && b) ≡ (ltb i (k + 1) && b)
-    by_apart b apart = grind (arith, nat_tests)
+  pub gathered_where : (P : ℕ → Type 0) → ((i : ℕ) → i < count → Decides (bit set i) (P i)) → (i : ℕ) → Decides (bit set i) ((i < count) × P i)
+  gathered_where P told i = (λ h. let low = inside i h in (low, (told i low).0 h), λ h. (told i h.0).1 h.1)
 
 ones_zero : ones 0 ≡ 0
 unfolding ones

@@ -1,7 +1,7 @@
 -- Rounds: what they find accepts a tree, their number is its rank, and where they find nothing more all live states are found. Assumes nothing.
-use Rattle.std.proofs.Common.{◌≡◌, ℕ, ◌+◌, ◌^◌, ◌<◌, ◌≤◌, Bool, true, false, cond, ◌&&◌, ◌||◌, eqb, ltb, List, [], ◌∷◌, get_or, Some, Decides, sym, refl, ap, ◌∙◌, subst, ⊎_elim, arith}
+use Rattle.std.proofs.Common.{◌≡◌, ℕ, ◌+◌, ◌^◌, ◌<◌, ◌≤◌, Bool, true, false, cond, List, [], ◌∷◌, Some, None, Option, Decides, sym, refl, ap, ◌∙◌, subst, ⊎_elim, arith}
 use lib.Bits.{bit_or, or_lt}
-use Rattle.std.specs.List.{AllByRecursion}
+use Rattle.std.specs.List.{AllByRecursion, slice_get}
 use Rattle.std.proofs.ByRecursion.{All-weaker}
 use Rattle.std.proofs.lemmas.Bool.{and_parts, and_from, both_ways, cases_Bool, cases_eq, cases_lt, cond-true, cond-false, or_cases, or_left, or_parts, or_right}
 use Rattle.codec.specs.Trees.{Tree, node, Children, none, child, word, height, heights}
@@ -9,36 +9,11 @@ use Rattle.domain.specs.Kinds.{bit}
 use Rattle.domain.proofs.Digits.{lowest_first}
 use Rattle.schema.specs.Automata.{Automaton, passes, present, row_runs, has_next, allowed, accepts, accepts_all}
 use Rattle.schema.specs.Below.{count_below}
-use Rattle.schema.specs.Live.{Found, New, Rank, RankMask, Ranked}
+use Rattle.schema.specs.Live.{Found, New, Rank, Ranked}
 use Rattle.schema.specs.Rows.{RunsOverFrom}
 use Rattle.schema.proofs.Bound.{passed}
-use Rattle.schema.proofs.Counting.{count_le, count_grows}
-use Rattle.schema.proofs.Gathering.{in_one_more, one_more_keeps, one_more_has}
-use Rattle.schema.proofs.Members.{bit_zero, bit-bit_or, or_grown}
-
--- members below k with a property, gathered one after the other
-module _ (P : ℕ → Type 0) where
-  pub gathered_none : (q : ℕ) → Decides (bit 0 q) ((q < 0) × P q)
-  gathered_none q = (λ h. absurd (both_ways (bit 0 q) (bit_zero q) h), λ h. absurd (omega (arith, h.0)))
-
-  pub gathered_more : (set more k : ℕ) → k < 64 → ((q : ℕ) → Decides (bit set q) ((q < k) × P q)) → P k → ((i : ℕ) → bit more i ≡ (bit set i || (ltb k 64 && eqb k i))) → (q : ℕ) → Decides (bit more q) ((q < k + 1) × P q)
-  gathered_more set more k inside so here adds q = (
-    λ h. ⊎_elim (λ old. let told = (so q).0 old in (omega (arith, told.0), told.1)) (λ e. (omega arith, subst P e here)) (in_one_more set more k q (adds q) h),
-    λ h.
-        ⊎_elim
-        (λ low. one_more_keeps set more k q (adds q) ((so q).1 (low, h.1)))
-        (λ up. let e : k ≡ q = omega (arith, h.0) in subst (λ (i : ℕ). bit more i ≡ true) e (one_more_has set more k (adds k) inside))
-        (cases_lt q k),
-  )
-
-  pub gathered_same : (set k : ℕ) → ((q : ℕ) → Decides (bit set q) ((q < k) × P q)) → (r : Bool) → Decides r (P k) → r ≡ false → (q : ℕ) → Decides (bit set q) ((q < k + 1) × P q)
-  gathered_same set k so r decides fails q = (
-    λ h. let told = (so q).0 h in (omega (arith, told.0), told.1),
-    λ h. ⊎_elim (λ low. (so q).1 (low, h.1)) (λ up. let e : q ≡ k = omega (arith, h.0) in absurd (both_ways r fails (decides.1 (subst P e h.1)))) (cases_lt q k),
-  )
-
-  pub gathered_all : (set k n : ℕ) → k ≤ n → n ≤ k → ((q : ℕ) → Decides (bit set q) ((q < k) × P q)) → (q : ℕ) → Decides (bit set q) ((q < n) × P q)
-  gathered_all set k n upto past so = let e : k ≡ n = omega arith in subst (λ (m : ℕ). (q : ℕ) → Decides (bit set q) ((q < m) × P q)) e so
+use Rattle.schema.proofs.Counting.{count_le, count_full, count_grows}
+use Rattle.schema.proofs.Members.{bit_zero, bit-bit_or}
 
 -- two sets with the same members have the same sequences
 pub runs_over_same : (A : Automaton) (q r : ℕ) (set other : ℕ → Bool) → ((a : ℕ) → set a ≡ other a) → RunsOverFrom A q set r → RunsOverFrom A q other r
@@ -49,11 +24,11 @@ abbrev Below : Automaton → ℕ → ℕ → Type 0
 Below A m q = (t : Tree) × (accepts A q t ≡ true) × (height t < m)
 
 -- after some rounds: the states that accept a tree lower than their number, and at each its rank is noted
-pub record AfterRounds (A : Automaton) (n live : ℕ) (ranks : List ℕ) (rounds : ℕ) : Type 0 where
+pub record AfterRounds (A : Automaton) (n live : ℕ) (ranks : List (Option ℕ)) (rounds : ℕ) : Type 0 where
   pub small : live < 2 ^ 64
   pub exact : (q : ℕ) → Decides (bit live q) ((q < n) × Below A rounds q)
-  pub noted : (q : ℕ) → bit live q ≡ true → (get_or ranks q 0 < 64) × Rank A q (get_or ranks q 0)
-  pub others : (q : ℕ) → q < 64 → bit live q ≡ false → get_or ranks q 0 ≡ 255
+  pub noted : (q : ℕ) → bit live q ≡ true → (m : ℕ) × (slice_get ranks q ≡ Some (Some m)) × (m < 64) × Rank A q m
+  pub others : (q : ℕ) → q < 64 → bit live q ≡ false → slice_get ranks q ≡ Some None
   pub many : rounds ≤ count_below 64 (bit live)
 
 module _ (A : Automaton) (n : ℕ) (few : n ≤ 64) (inside : (q a s : ℕ) → q < n → A.next q a ≡ Some s → s < n) where
@@ -104,7 +79,7 @@ module _ (A : Automaton) (n : ℕ) (few : n ≤ 64) (inside : (q a s : ℕ) → 
           let s = passed (A.next q a) (λ s. accepts A s t) parts.0 in
           (subst (λ o. passes o states ≡ true) (sym s.1) (holds s.0 (inside q a s.0 low s.1) (t, s.2, omega arith)), over cs parts.1 (omega arith))
 
-  pub no_round : (ranks : List ℕ) → ((q : ℕ) → q < 64 → get_or ranks q 0 ≡ 255) → AfterRounds A n 0 ranks 0
+  pub no_round : (ranks : List (Option ℕ)) → ((q : ℕ) → q < 64 → slice_get ranks q ≡ Some None) → AfterRounds A n 0 ranks 0
   no_round ranks empty =
       record {
         small = omega arith;
@@ -114,7 +89,7 @@ module _ (A : Automaton) (n : ℕ) (few : n ≤ 64) (inside : (q a s : ℕ) → 
         many = omega arith;
       }
 
-  module _ (live : ℕ) (ranks : List ℕ) (rounds found : ℕ) (so : AfterRounds A n live ranks rounds) (round : (q : ℕ) → Decides (bit found q) ((q < n) × New A (bit live) q)) (fits : found < 2 ^ 64) where
+  module _ (live : ℕ) (ranks : List (Option ℕ)) (rounds found : ℕ) (so : AfterRounds A n live ranks rounds) (round : (q : ℕ) → Decides (bit found q) ((q < n) × New A (bit live) q)) (fits : found < 2 ^ 64) where
     lower : (s : ℕ) → bit live s ≡ true → Below A rounds s
     lower s there = ((so.exact s).0 there).1
 
@@ -140,9 +115,6 @@ module _ (A : Automaton) (n : ℕ) (few : n ≤ 64) (inside : (q a s : ℕ) → 
         positive : (m : ℕ) → (m ≡ 0 → ⊥) → 0 < m
         positive m some = ⊎_elim (λ e. absurd (some e)) (λ ne. omega (arith, ne)) (cases_eq m 0)
 
-    pub larger : (found ≡ 0 → ⊥) → (live < bit_or live found) × (bit_or live found < 2 ^ 64)
-    larger some = let j = first_new some in (or_grown live found j.0 j.2 j.1, round_small)
-
     more_found : (found ≡ 0 → ⊥) → count_below 64 (bit live) < count_below 64 (bit (bit_or live found))
     more_found some =
         let j = first_new some in
@@ -154,29 +126,28 @@ module _ (A : Automaton) (n : ℕ) (few : n ≤ 64) (inside : (q a s : ℕ) → 
         one_more : (before after : ℕ) → rounds ≤ before → before < after → rounds + 1 ≤ after
         one_more before after h l = omega arith
 
-    pub rounds_few : (found ≡ 0 → ⊥) → rounds < 64
+    rounds_few : (found ≡ 0 → ⊥) → rounds < 64
     rounds_few some = below _ (more_many some) (count_le 64 (bit (bit_or live found)))
       where
         below : (after : ℕ) → rounds + 1 ≤ after → after ≤ 64 → rounds < 64
         below after h l = omega arith
 
     -- the round's number is noted at what the round found, and all else is as before
-    module _ (some : found ≡ 0 → ⊥) (after : List ℕ) (notes : (q : ℕ) → q < 64 → get_or after q 0 ≡ cond (bit found q) rounds (get_or ranks q 0)) where
-      noted_old : (q : ℕ) → bit live q ≡ true → (get_or after q 0 < 64) × Rank A q (get_or after q 0)
+    module _ (some : found ≡ 0 → ⊥) (after : List (Option ℕ)) (notes : (q : ℕ) → q < 64 → slice_get after q ≡ cond (bit found q) (Some (Some rounds)) (slice_get ranks q)) where
+      noted_old : (q : ℕ) → bit live q ≡ true → (m : ℕ) × (slice_get after q ≡ Some (Some m)) × (m < 64) × Rank A q m
       noted_old q old =
           let out = ⊎_elim (λ new. absurd (both_ways (bit live q) ((round q).0 new).1.0 old)) (λ out. out) (cases_Bool (bit found q)) in
-          let same = notes q (omega (arith, ((so.exact q).0 old).0)) ∙ cond-false _ rounds (get_or ranks q 0) out in
-          subst (λ (m : ℕ). (m < 64) × Rank A q m) (sym same) (so.noted q old)
+          let before = so.noted q old in
+          (before.0, notes q (omega (arith, ((so.exact q).0 old).0)) ∙ cond-false _ (Some (Some rounds)) (slice_get ranks q) out ∙ before.1, before.2, before.3)
 
-      noted_new : (q : ℕ) → bit found q ≡ true → (get_or after q 0 < 64) × Rank A q (get_or after q 0)
+      noted_new : (q : ℕ) → bit found q ≡ true → (m : ℕ) × (slice_get after q ≡ Some (Some m)) × (m < 64) × Rank A q m
       noted_new q new =
-          let same = notes q (omega (arith, ((round q).0 new).0)) ∙ cond-true _ rounds (get_or ranks q 0) new in
-          subst (λ (m : ℕ). (m < 64) × Rank A q m) (sym same) (rounds_few some, new_rank q new)
+          (rounds, notes q (omega (arith, ((round q).0 new).0)) ∙ cond-true _ (Some (Some rounds)) (slice_get ranks q) new, rounds_few some, new_rank q new)
 
-      noted_others : (q : ℕ) → q < 64 → bit (bit_or live found) q ≡ false → get_or after q 0 ≡ 255
+      noted_others : (q : ℕ) → q < 64 → bit (bit_or live found) q ≡ false → slice_get after q ≡ Some None
       noted_others q low out =
           let parts = or_parts (bit live q) (bit found q) (sym (bit-bit_or live found q) ∙ out) in
-          notes q low ∙ cond-false _ rounds (get_or ranks q 0) parts.1 ∙ so.others q low parts.0
+          notes q low ∙ cond-false _ (Some (Some rounds)) (slice_get ranks q) parts.1 ∙ so.others q low parts.0
 
       pub one_round : AfterRounds A n (bit_or live found) after (rounds + 1)
       one_round =
@@ -220,6 +191,11 @@ module _ (A : Automaton) (n : ℕ) (few : n ≤ 64) (inside : (q a s : ℕ) → 
     pub finished : found ≡ 0 → Ranked A n live ranks
     finished end = record { live = λ q. (λ h. let told = (so.exact q).0 h in (told.0, (told.1.0, told.1.1)), λ h. all_found end q h.1.0 h.0 h.1.1); noted = so.noted; others = so.others }
 
--- where ranks are noted, the mask is that of the states that have a rank
-pub rank_mask : (A : Automaton) (n mask : ℕ) (ranks : List ℕ) → Ranked A n mask ranks → RankMask A n mask
-rank_mask A n mask ranks so q = (λ h. (((so.live q).0 h).0, (get_or ranks q 0, (so.noted q h).0, (so.noted q h).1)), λ h. (so.live q).1 (h.0, (h.1.2.0.0, h.1.2.0.1)))
+  -- after as many rounds as there are numbers below 64 every state is found
+  pub all_rounds : (live : ℕ) (ranks : List (Option ℕ)) (rounds : ℕ) → AfterRounds A n live ranks rounds → 64 ≤ rounds → Ranked A n live ranks
+  all_rounds live ranks rounds so enough =
+      record {
+        live = λ q. (λ h. let told = (so.exact q).0 h in (told.0, (told.1.0, told.1.1)), λ h. count_full (bit live) 64 (omega (arith, so.many, enough)) q (omega (arith, h.0, few)));
+        noted = so.noted;
+        others = so.others;
+      }

@@ -1,14 +1,10 @@
 -- Numbers tried one after the other, from 0 on. Assumes nothing.
-use Rattle.std.proofs.Common.{◌≡◌, ℕ, zero, suc, ◌+◌, ◌<◌, ◌≤◌, Bool, true, false, cond, [], ◌∷◌, Some, None, sym, refl, ap, ◌∙◌, subst, ⊎_elim, add-one, arith}
+use Rattle.std.proofs.Common.{◌≡◌, ℕ, zero, suc, ◌<◌, Bool, true, false, cond, [], ◌∷◌, Some, None, sym, refl, ap, ◌∙◌, subst, ⊎_elim, arith}
 use Rattle.std.proofs.lemmas.Bool.{both_ways, cases_lt, or_cases, or_left, or_right, or_from}
 use Rattle.refusal.specs.Order.{first_of}
 use Rattle.schema.specs.Below.{some_below, lowest}
 
 module _ (test : ℕ → Bool) where
-  -- one number more that does not pass
-  pub none_more : (i : ℕ) → some_below i test ≡ false → test i ≡ false → some_below (i + 1) test ≡ false
-  none_more i none fails = ap (λ (n : ℕ). some_below n test) (add-one i) ∙ or_from _ _ none fails
-
   -- a number that passes
   pub some_found : (n i : ℕ) → i < n → test i ≡ true → some_below n test ≡ true
   some_found zero i inside passes = absurd (omega arith)
@@ -26,13 +22,15 @@ module _ (test : ℕ → Bool) where
       (λ here. (n, omega arith, here))
       (or_cases (some_below n test) (test n) found)
 
-  -- all numbers were tried
-  pub none_all : (i n : ℕ) → i ≤ n → n ≤ i → some_below i test ≡ false → some_below n test ≡ false
-  none_all i n upto past none = let all : i ≡ n = omega arith in subst (λ (k : ℕ). some_below k test ≡ false) all none
+  -- where none passes
+  pub none_below : (n : ℕ) → ((i : ℕ) → i < n → test i ≡ false) → some_below n test ≡ false
+  none_below zero fails = refl
+  none_below (suc n) fails = or_from _ _ (none_below n (λ i low. fails i (omega arith))) (fails n (omega arith))
 
-  pub lowest_more : (i : ℕ) → lowest i test ≡ None → test i ≡ false → lowest (i + 1) test ≡ None
-  lowest_more i none fails =
-      ap (λ (n : ℕ). lowest n test) (add-one i) ∙ ap (λ o. first_of (o ∷ cond (test i) (Some i) None ∷ [])) none ∙ ap (λ (b : Bool). first_of (cond b (Some i) None ∷ [])) fails
+  pub lowest_none_below : (n : ℕ) → ((i : ℕ) → i < n → test i ≡ false) → lowest n test ≡ None
+  lowest_none_below zero fails = refl
+  lowest_none_below (suc n) fails =
+      ap (λ o. first_of (o ∷ cond (test n) (Some n) None ∷ [])) (lowest_none_below n (λ i low. fails i (omega arith))) ∙ ap (λ (b : Bool). first_of (cond b (Some n) None ∷ [])) (fails n (omega arith))
 
   -- the first number that passes is the lowest
   pub lowest_found : (n i : ℕ) → i < n → lowest i test ≡ None → test i ≡ true → lowest n test ≡ Some i
@@ -45,6 +43,3 @@ module _ (test : ℕ → Bool) where
       ap (λ o. first_of (o ∷ cond (test n) (Some n) None ∷ [])) (subst (λ (k : ℕ). lowest k test ≡ None) last none)
       ∙ ap (λ (b : Bool). first_of (cond b (Some n) None ∷ [])) (subst (λ (k : ℕ). test k ≡ true) last passes) ∙ ap Some (sym last))
       (cases_lt i n)
-
-  pub lowest_all : (i n : ℕ) → i ≤ n → n ≤ i → lowest i test ≡ None → lowest n test ≡ None
-  lowest_all i n upto past none = let all : i ≡ n = omega arith in subst (λ (k : ℕ). lowest k test ≡ None) all none

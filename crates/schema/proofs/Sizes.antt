@@ -1,18 +1,12 @@
 -- What the test of counts and lengths tells. Assumes nothing.
-use Rattle.std.proofs.Common.{◌≡◌, ℕ, zero, suc, ◌+◌, ◌*◌, ◌≤◌, Bool, true, false, cond, not, ◌&&◌, eqb, leb, List, [], ◌∷◌, length, get_or, is_some, Some, None, Option, unwrap_or, refl, arith}
+use Rattle.std.proofs.Common.{◌≡◌, ℕ, ◌+◌, ◌*◌, ◌≤◌, Bool, true, false, cond, not, ◌&&◌, eqb, leb, [], ◌∷◌, length, is_some, Some, None, Option, sym, refl}
 use Rattle.refusal.specs.declared.fault.Refusal.{Refusal}
 use Rattle.refusal.specs.Order.{first_of}
 use Rattle.refusal.specs.declared.fault.Fault.TheVariants.{Size, State, Row, Domain}
-use Rattle.std.specs.List.{slice_get}
+use Rattle.std.proofs.lemmas.Option.{none-some}
 use Rattle.std.proofs.lemmas.Bool.{true≢false, or_parts, not-false, and_parts, leb-true, eqb-true}
 use Rattle.schema.specs.Faults.{outside, size_wrong, at_lowest, table_fault, faulty}
 use Rattle.schema.specs.Tables.{Tables}
-
--- an entry of a list, or another value past its end
-pub value_or_nth : {X : Type 0} (xs : List X) (i : ℕ) (d : X) → unwrap_or (slice_get xs i) d ≡ get_or xs i d
-value_or_nth [] i d = refl
-value_or_nth (x ∷ xs) zero d = refl
-value_or_nth (x ∷ xs) (suc i) d = value_or_nth xs i d
 
 pub record Within (low high n : ℕ) : Type 0 where
   pub from : low ≤ n
@@ -57,7 +51,7 @@ pub sound_size : (T : Tables) → table_fault T ≡ None → size_wrong T ≡ fa
 sound_size T sound = by (size_wrong T) sound
   where
     by : (wrong : Bool) → first_of (cond wrong (Some (record { fault = Size; place = 0 })) None ∷ at_lowest T State ∷ at_lowest T Row ∷ at_lowest T Domain ∷ []) ≡ None → wrong ≡ false
-    by true h = absurd (let z : ◌≡◌ {A = ℕ} 0 1 = cc in omega arith)
+    by true h = absurd (none-some _ (sym h))
     by false h = refl
 
 -- tables that are not faulty have no fault

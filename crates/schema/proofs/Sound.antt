@@ -1,6 +1,7 @@
 -- What tables without a fault keep: states lead to states, and rows to rows of the same state. Assumes nothing.
 use Rattle.std.proofs.Common.{◌≡◌, ℕ, zero, suc, ◌<◌, Bool, true, false, cond, ◌||◌, eqb, ltb, List, [], ◌∷◌, Some, None, Option, sym, refl, ◌∙◌, subst, ⊎_elim, arith}
 use Rattle.std.specs.Option.{option_map}
+use Rattle.std.proofs.lemmas.Option.{none-some, same_Some}
 use Rattle.std.proofs.lemmas.Bool.{both_ways, cases_Bool, cases_lt, cond-true, cond-false, ltb-true, not-false, or_cases, or_parts}
 use Rattle.refusal.specs.declared.fault.Fault.TheVariants.{State, Row}
 use Rattle.refusal.specs.Order.{first_of}
@@ -12,7 +13,7 @@ use Rattle.schema.proofs.Sizes.{Within, inside, sound_tables}
 
 -- nothing was found, so nothing is there
 pub some_not_none : {X : Type 0} {x : X} → ◌≡◌ {A = Option X} (Some x) None → ⊥
-some_not_none e = let z : ◌≡◌ {A = ℕ} 0 1 = cc in omega arith
+some_not_none {X} {x} e = none-some x (sym e)
 
 pub first_none : {X : Type 0} (o : Option X) (os : List (Option X)) → first_of (o ∷ os) ≡ None → (o ≡ None) × (first_of os ≡ None)
 first_none (Some x) os h = absurd (some_not_none h)
@@ -45,12 +46,9 @@ entry_below limit b x fine is =
     ⊎_elim
     (λ none. absurd (some_not_none (sym is ∙ cond-true (eqb b 255) None (Some b) none)))
     (λ known.
-    let same : b ≡ x = let e = sym (cond-false (eqb b 255) None (Some b) known) ∙ is in some_same e in
+    let same : b ≡ x = let e = sym (cond-false (eqb b 255) None (Some b) known) ∙ is in same_Some _ _ e in
     ⊎_elim (λ none. absurd (both_ways (eqb b 255) known none)) (λ low. subst (λ (n : ℕ). n < limit) same (ltb-true b limit low)) (or_cases (eqb b 255) (ltb b limit) (not-false (eqb b 255 || ltb b limit) fine)))
     (cases_Bool (eqb b 255))
-  where
-    some_same : {x y : ℕ} → ◌≡◌ {A = Option ℕ} (Some x) (Some y) → x ≡ y
-    some_same e = cc
 
 -- a look-up under a symbol of the schema
 pub under : (a symbols b x : ℕ) → cond (ltb a symbols) (entry b) None ≡ Some x → (a < symbols) × (entry b ≡ Some x)

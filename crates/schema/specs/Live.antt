@@ -1,6 +1,6 @@
 -- Live states: those that accept some finite tree. Assumes nothing.
-use Rattle.std.specs.Prelude.{◌≡◌, ℕ, ◌<◌, ◌≤◌, Bool, true, false, List, [], ◌∷◌, ◌++◌, Some, Decides, slice_index}
-use Rattle.std.specs.List.{AllByRecursion}
+use Rattle.std.specs.Prelude.{◌≡◌, ℕ, ◌<◌, ◌≤◌, Bool, true, false, List, [], ◌∷◌, ◌++◌, Some, None, Option, Decides}
+use Rattle.std.specs.List.{AllByRecursion, slice_get}
 use Rattle.codec.specs.Trees.{Tree, height}
 use Rattle.domain.specs.Kinds.{bit}
 use Rattle.schema.specs.Automata.{Automaton, passes, allowed, accepts}
@@ -44,8 +44,8 @@ module _ (A : Automaton) where
   abbrev pub RankMask : ℕ → ℕ → Type 0
   RankMask n mask = (q : ℕ) → Decides (bit mask q) ((q < n) × ((m : ℕ) × (m < 64) × Rank q m))
 
-  -- the mask is that of the live states below n; at each of them its rank is noted, which is below 64, and 255 at every other number below 64
-  pub record Ranked (n mask : ℕ) (ranks : List ℕ) : Type 0 where
+  -- the mask is that of the live states below n; at each of them its rank is noted, which is below 64, and none at every other number below 64
+  pub record Ranked (n mask : ℕ) (ranks : List (Option ℕ)) : Type 0 where
     pub live : LiveMask n mask
-    pub noted : (q : ℕ) → bit mask q ≡ true → (slice_index ranks q < 64) × Rank q (slice_index ranks q)
-    pub others : (q : ℕ) → q < 64 → bit mask q ≡ false → slice_index ranks q ≡ 255
+    pub noted : (q : ℕ) → bit mask q ≡ true → (m : ℕ) × (slice_get ranks q ≡ Some (Some m)) × (m < 64) × Rank q m
+    pub others : (q : ℕ) → q < 64 → bit mask q ≡ false → slice_get ranks q ≡ Some None

@@ -1,7 +1,10 @@
 -- Permitted symbols: a schema as if the others had no next state, and trees that hold no other. Assumes nothing.
 use Rattle.std.specs.Prelude.{ℕ, Bool, true, cond, ◌&&◌, None}
 use Rattle.codec.specs.Trees.{Tree, node, Children, none, child}
+use Rattle.domain.specs.Kinds.{bit}
+use Rattle.schema.specs.declared.tables.Schema.{Schema}
 use Rattle.schema.specs.Automata.{Automaton}
+use Rattle.schema.specs.Tables.{automaton_of}
 
 module _ (permitted : ℕ → Bool) where
   -- the automaton in which only permitted symbols have a next state
@@ -16,3 +19,7 @@ module _ (permitted : ℕ → Bool) where
     pub over_all : Children → Bool
     over_all none = true
     over_all (child a t cs) = permitted a && (over t && over_all cs)
+
+-- the automaton of a schema over the symbols of a mask
+abbrev pub automaton_over : {D : Type 0} → ℕ → (D → ℕ → Bool) → Schema D → Automaton
+automaton_over mask holds s = permit (bit mask) (automaton_of holds s)

@@ -15,6 +15,12 @@ pub record AfterEdge (Edge : ℕ → ℕ → ℕ → Type 0) (p before after : �
   pub added : (a j : ℕ) → Edge p a j → j < 64 → bit after j ≡ true
   pub only : (i : ℕ) → bit after i ≡ true → (bit before i ≡ true) ⊎ ((a : ℕ) × Edge p a i)
 
+-- the numbers of a set, and those below 64 that one of the numbers below n leads to
+pub record LedOnto (Leads : ℕ → Option ℕ → Type 0) (n before after : ℕ) : Type 0 where
+  pub kept : (i : ℕ) → bit before i ≡ true → bit after i ≡ true
+  pub added : (a : ℕ) → a < n → (o : Option ℕ) × Leads a o × ((i : ℕ) → o ≡ Some i → i < 64 → bit after i ≡ true)
+  pub only : (i : ℕ) → bit after i ≡ true → (bit before i ≡ true) ⊎ ((a : ℕ) × (a < n) × Leads a (Some i))
+
 module _ (A : Automaton) (q : ℕ) where
   -- the row that a sequence leads to from row r
   abbrev pub leads : ℕ → List ℕ → Option ℕ
@@ -26,13 +32,13 @@ module _ (A : Automaton) (q : ℕ) where
     abbrev pub RowEdge : ℕ → ℕ → ℕ → Type 0
     RowEdge r a s = (set a ≡ true) × (A.step q r a ≡ Some s)
 
-    -- some sequence over the set runs from the first row to a row where it may end
-    abbrev pub RunsOver : Type 0
-    RunsOver = (w : List ℕ) × AllByRecursion (λ a. set a ≡ true) w × (row_runs A q 0 w ≡ true)
-
     -- some sequence over the set runs from row r to a row where it may end
     abbrev pub RunsOverFrom : ℕ → Type 0
     RunsOverFrom r = (w : List ℕ) × AllByRecursion (λ a. set a ≡ true) w × (row_runs A q r w ≡ true)
+
+    -- some sequence over the set runs from the first row to a row where it may end
+    abbrev pub RunsOver : Type 0
+    RunsOver = RunsOverFrom 0
 
     -- some sequence over the set leads from row r to row s
     abbrev pub LeadsOver : ℕ → ℕ → Type 0
@@ -43,19 +49,15 @@ module _ (A : Automaton) (q : ℕ) where
     Held a = (u v : List ℕ) × AllByRecursion (λ b. set b ≡ true) (u ++ a ∷ v) × (row_runs A q 0 (u ++ a ∷ v) ≡ true)
 
     -- the rows of a set, and those that one symbol of the set leads to from row r
-    pub record After (r before after : ℕ) : Type 0 where
-      pub kept : (i : ℕ) → bit before i ≡ true → bit after i ≡ true
-      pub added : (a j : ℕ) → set a ≡ true → A.step q r a ≡ Some j → j < 64 → bit after j ≡ true
-      pub only : (i : ℕ) → bit after i ≡ true → (bit before i ≡ true) ⊎ ((a : ℕ) × (set a ≡ true) × (A.step q r a ≡ Some i))
-
-    -- exactly the rows that sequences over the set lead to from the first row
-    pub record Reached (rows : ℕ) : Type 0 where
-      pub start : bit rows 0 ≡ true
-      pub closed : (i a j : ℕ) → bit rows i ≡ true → set a ≡ true → A.step q i a ≡ Some j → bit rows j ≡ true
-      pub only : (i : ℕ) → bit rows i ≡ true → (w : List ℕ) × AllByRecursion (λ a. set a ≡ true) w × (leads 0 w ≡ Some i)
+    abbrev pub After : ℕ → ℕ → ℕ → Type 0
+    After = AfterEdge RowEdge
 
     -- exactly the rows that sequences over the set lead to from row r
     pub record ReachedFrom (r rows : ℕ) : Type 0 where
       pub start : bit rows r ≡ true
       pub closed : (i a j : ℕ) → bit rows i ≡ true → RowEdge i a j → bit rows j ≡ true
       pub only : (i : ℕ) → bit rows i ≡ true → LeadsOver r i
+
+    -- exactly the rows that sequences over the set lead to from the first row
+    abbrev pub Reached : ℕ → Type 0
+    Reached = ReachedFrom 0

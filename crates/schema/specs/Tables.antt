@@ -74,3 +74,7 @@ module _ (T : Tables) where
     ends = λ q r. (end_mark q r == 1);
     has = λ q v. nat_lt v (2 ^ 32) && get_or domains (domain_number q) (λ _. false) v;
   }
+
+-- the automaton of a schema, where `holds` says which values a domain has
+abbrev pub automaton_of : {D : Type 0} → (D → ℕ → Bool) → Schema D → Automaton
+automaton_of holds s = automaton (tables s) (sets holds s)

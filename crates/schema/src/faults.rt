@@ -1,5 +1,5 @@
 //! The tests of what the tables hold: transitions, rows and domain numbers, state by state.
-ghost use Rattle.std.specs.Prelude.{◌≡◌};
+ghost use Rattle.std.specs.Prelude.{◌≡◌, None, Some, MatchResult};
 ghost use Rattle.schema.specs.Tables.{tables};
 ghost use Rattle.schema.specs.Faults.{stray, state_wrong, entries_wrong, line_wrong, lines_wrong, row_wrong, wrong_at, at_lowest, either_at_lowest};
 
@@ -9,7 +9,7 @@ use refusal::fault::{Fault, Refusal};
 /// The most rows that a state has.
 pub const STATE_ROWS: u8 = 16;
 
-/// The entry that says none.
+/// The entry that says none: a number, since the format of the tables fixes it. Inside, `Tested` answers options.
 pub const NONE: u8 = 255;
 
 /// Whether an entry is neither 255 nor below the limit.
@@ -24,15 +24,12 @@ impl<D> Measured<'_, D> {
     fn transitions_are_wrong(&self, state: u8) -> bool
         ensures { result ≡ state_wrong (tables self.now.schema) state }
     {
-        for symbol in 0..self.schema.symbols {
-            if is_stray(
+        (0..self.schema.symbols).any(|symbol| {
+            is_stray(
                 self.schema.states,
                 self.transition_byte(state, symbol as u8),
-            ) {
-                return true;
-            }
-        }
-        false
+            )
+        })
     }
 
     /// Whether an entry of a row is neither 255 nor one of the state's rows.
@@ -40,12 +37,10 @@ impl<D> Measured<'_, D> {
         ensures { result ≡ entries_wrong (tables self.now.schema) state row }
     {
         let count = self.state_byte(state, 1) as usize;
-        for symbol in 0..self.schema.symbols {
-            if is_stray(count, self.row_byte(state, row, symbol as u8)) {
-                return true;
-            }
-        }
-        false
+        (0..self.schema.symbols).any(|symbol| is_stray(
+            count,
+            self.row_byte(state, row, symbol as u8),
+        ))
     }
 
     /// Whether a row has a wrong end mark or entry.
@@ -59,12 +54,7 @@ impl<D> Measured<'_, D> {
     fn lines_are_wrong(&self, state: u8) -> bool
         ensures { result ≡ lines_wrong (tables self.now.schema) state }
     {
-        for row in 0..self.state_byte(state, 1) {
-            if self.line_is_wrong(state, row) {
-                return true;
-            }
-        }
-        false
+        (0..self.state_byte(state, 1)).any(|row| self.line_is_wrong(state, row))
     }
 
     /// Whether the state's row count or first row is out of range, or one of its rows is wrong.
@@ -72,13 +62,13 @@ impl<D> Measured<'_, D> {
         ensures { result ≡ row_wrong (tables self.now.schema) state }
     {
         let count = self.state_byte(state, 1);
-        count < 1
-            || STATE_ROWS < count
+        !(1..=STATE_ROWS).contains(&count)
             || self.schema.rows < self.first_row(state) + count as usize
             || self.lines_are_wrong(state)
     }
 
     /// Whether the state has the fault.
+    // A switch: the refusal and its law go by the fault's name, which closures would need beside them, and so be no plainer.
     fn is_wrong(&self, fault: Fault, state: u8) -> bool
         ensures { result ≡ wrong_at (tables self.now.schema) fault state }
     {
@@ -90,28 +80,21 @@ impl<D> Measured<'_, D> {
         }
     }
 
-    /// The refusal for the lowest state that has the fault.
-    pub fn first_fault(&self, fault: Fault) -> Option<Refusal>
-        ensures { result ≡ at_lowest (tables self.now.schema) fault }
+    /// The test for a fault of states: refused for the lowest state that has it.
+    pub fn first_fault(&self, fault: Fault) -> Result<(), Refusal>
+        ensures { MatchResult result (λ _. at_lowest (tables self.now.schema) fault ≡ None) (λ e. at_lowest (tables self.now.schema) fault ≡ Some e) }
     {
-        for state in 0..self.schema.states {
-            if self.is_wrong(fault, state as u8) {
-                return Some(Refusal {
-                    fault,
-                    place: state,
-                });
-            }
+        match (0..self.schema.states).find(|state| self.is_wrong(fault, *state as u8)) {
+            Some(state) => Err(fault.at(state)),
+            None => Ok(()),
         }
-        None
     }
 
-    /// The refusal for a fault of this schema's states, or else of the other's.
-    pub(crate) fn either_fault(&self, other: &Measured<D>, fault: Fault) -> Option<Refusal>
-        ensures { result ≡ either_at_lowest (tables self.now.schema) (tables other.now.schema) fault }
+    /// The test for a fault of this schema's states, and then of the other's.
+    pub(crate) fn either_fault(&self, other: &Measured<D>, fault: Fault) -> Result<(), Refusal>
+        ensures { MatchResult result (λ _. either_at_lowest (tables self.now.schema) (tables other.now.schema) fault ≡ None) (λ e. either_at_lowest (tables self.now.schema) (tables other.now.schema) fault ≡ Some e) }
     {
-        match self.first_fault(fault) {
-            Some(refusal) => Some(refusal),
-            None => other.first_fault(fault),
-        }
+        self.first_fault(fault)?;
+        other.first_fault(fault)
     }
 }

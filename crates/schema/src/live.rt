@@ -1,15 +1,14 @@
 //! Which states accept a finite tree, and their ranks. A round finds those that need only states found before it.
-ghost use Rattle.std.specs.Prelude.{◌≡◌, ℕ, ◌<◌, IfOk, if◌then◌else◌, Some, Decides, MatchResult, slice_index};
+ghost use Rattle.std.specs.Prelude.{◌≡◌, ℕ, ◌<◌, IfOk, if◌then◌else◌, Some, Decides, MatchResult, slice_get};
 ghost use Rattle.domain.specs.Kinds.{bit};
 ghost use Rattle.domain.specs.Sets.{Smallest};
 ghost use Rattle.schema.specs.Examples.{LeadsBackDead};
 ghost use Rattle.schema.specs.Faults.{table_fault};
-ghost use Rattle.schema.specs.Live.{New, Ranked, LiveMask, RankMask};
-ghost use Rattle.schema.specs.Permitted.{permit};
-ghost use Rattle.schema.specs.Tables.{tables, sets, automaton};
+ghost use Rattle.schema.specs.Live.{Found, New, Ranked, LiveMask, RankMask};
+ghost use Rattle.schema.specs.Permitted.{automaton_over};
+ghost use Rattle.schema.specs.Tables.{tables, automaton_of};
 
-use crate::faults::NONE;
-use crate::sets::{has_member, with_member};
+use crate::sets::{gather, has_member};
 use crate::tables::{STATES, Schema};
 use crate::tested::Tested;
 use domain::domain::Domain;
@@ -18,20 +17,21 @@ use refusal::fault::Refusal;
 /// Every symbol is permitted.
 pub const ALL_SYMBOLS: u64 = u64::MAX;
 
-/// The live states, one a bit, and the rank of each; 255 for the others.
-#[derive(Clone, Copy)]
+/// The live states, one a bit, and the rank of each; none for the others.
+// The mask stays beside the ranks: the rounds grow it as a set, and it is all that `live_over` and `live_states` hand on.
+#[derive(Clone, Copy, Debug, PartialEq, Eq)]
 pub struct Ranks {
     pub live: u64,
-    pub rank: [u8; STATES],
+    pub rank: [Option<u8>; STATES],
 }
 
 /// Notes a number at each state of the set.
-fn note(ranks: &mut [u8; STATES], states: u64, number: u8)
-    ensures { (q : ℕ) → q < 64 → slice_index ranks.new q ≡ (if bit states q then number else slice_index ranks.old q) }
+fn note(ranks: &mut [Option<u8>; STATES], states: u64, number: u8)
+    ensures { (q : ℕ) → q < 64 → slice_get ranks.new q ≡ (if bit states q then Some (Some number) else slice_get ranks.old q) }
 {
-    for state in 0..STATES {
+    for (state, rank) in ranks.iter_mut().enumerate() {
         if has_member(states, state as u8) {
-            ranks[state] = number;
+            *rank = Some(number);
         }
     }
 }
@@ -39,82 +39,76 @@ fn note(ranks: &mut [u8; STATES], states: u64, number: u8)
 impl<D: Domain> Tested<'_, D> {
     /// The least value that the state's domain has.
     pub fn least(&self, state: u8) -> Option<u32>
-        ensures { Smallest ((automaton (tables self.now.measured.schema) (sets D.Domain.holds self.now.measured.schema)).has state) result }
+        ensures { Smallest ((automaton_of D.Domain.holds self.now.measured.schema).has state) result }
     {
-        match self
-            .measured
-            .schema
-            .domains
-            .get(self.measured.state_byte(state, 0) as usize)
-        {
-            Some(domain) => domain.least(),
-            None => None,
-        }
+        self.domain(state).and_then(|domain| domain.least())
     }
 
-    /// Whether a state is not in the set yet, and has a value and a sequence of permitted symbols into states of the set.
-    fn is_new(&self, state: u8, live: u64, permitted: u64) -> bool
-        ensures { state < self.now.measured.schema.states → Decides result (New (permit (bit permitted) (automaton (tables self.now.measured.schema) (sets D.Domain.holds self.now.measured.schema))) (bit live) state) }
+    // `live` and `permitted` stay two sets: one grows from round to round while the other is the caller's, and a pair would be taken apart in each function.
+    /// Whether a state has a value and a sequence of permitted symbols into states of the set.
+    fn is_found(&self, state: u8, live: u64, permitted: u64) -> bool
+        ensures { state < self.now.measured.schema.states → Decides result (Found (automaton_over permitted D.Domain.holds self.now.measured.schema) (bit live) state) }
     {
-        if has_member(live, state) {
-            return false;
-        }
         let Some(_) = self.least(state) else {
             return false;
         };
-        self.has_sequence(state, self.symbols_into_over(state, live, permitted))
+        let symbols = self.symbols_into(state, live) & permitted;
+        self.has_sequence_from(state, 0, symbols)
+    }
+
+    /// Whether a state is not in the set yet, and is found over it.
+    fn is_new(&self, state: u8, live: u64, permitted: u64) -> bool
+        ensures { state < self.now.measured.schema.states → Decides result (New (automaton_over permitted D.Domain.holds self.now.measured.schema) (bit live) state) }
+    {
+        !has_member(live, state) && self.is_found(state, live, permitted)
     }
 
     /// The states that a round over the set finds.
     fn round(&self, live: u64, permitted: u64) -> u64
-        ensures { (q : ℕ) → Decides (bit result q) ((q < self.now.measured.schema.states) × New (permit (bit permitted) (automaton (tables self.now.measured.schema) (sets D.Domain.holds self.now.measured.schema))) (bit live) q) }
+        ensures { (q : ℕ) → Decides (bit result q) ((q < self.now.measured.schema.states) × New (automaton_over permitted D.Domain.holds self.now.measured.schema) (bit live) q) }
     {
-        let mut found = 0;
-        for state in 0..self.measured.schema.states {
-            if self.is_new(state as u8, live, permitted) {
-                found = with_member(found, state as u8);
-            }
-        }
-        found
+        gather(self.states() as u8, |state| {
+            self.is_new(state, live, permitted)
+        })
     }
 
     /// The states that are live over the permitted symbols, and the rank of each: the number of the round that finds it.
     pub fn ranks_over(&self, permitted: u64) -> Ranks
-        ensures { Ranked (permit (bit permitted) (automaton (tables self.now.measured.schema) (sets D.Domain.holds self.now.measured.schema))) self.now.measured.schema.states result.live result.rank }
+        ensures { Ranked (automaton_over permitted D.Domain.holds self.now.measured.schema) self.now.measured.schema.states result.live result.rank }
     {
         let mut live = 0;
-        let mut rank = [NONE; STATES];
-        let mut round = 0;
-        loop {
+        let mut rank = [None; STATES];
+        for round in 0..STATES as u8 {
             let found = self.round(live, permitted);
             if found == 0 {
-                return Ranks { live, rank };
+                break;
             }
             note(&mut rank, found, round);
             live |= found;
-            round += 1;
         }
+        Ranks { live, rank }
     }
 
     /// The live states, and the rank of each.
+    // Kept beside `ranks_over`, as are the two below: these laws are of the schema itself, or of the set alone, and each caller would show them anew.
     pub fn ranks(&self) -> Ranks
-        ensures { Ranked (automaton (tables self.now.measured.schema) (sets D.Domain.holds self.now.measured.schema)) self.now.measured.schema.states result.live result.rank }
+        ensures { Ranked (automaton_of D.Domain.holds self.now.measured.schema) self.now.measured.schema.states result.live result.rank }
     {
         self.ranks_over(ALL_SYMBOLS)
     }
 
     /// The states that are live over the permitted symbols, one a bit.
     pub fn live_over(&self, permitted: u64) -> u64
-        ensures live { LiveMask (permit (bit permitted) (automaton (tables self.now.measured.schema) (sets D.Domain.holds self.now.measured.schema))) self.now.measured.schema.states result }
-        ensures ranks { RankMask (permit (bit permitted) (automaton (tables self.now.measured.schema) (sets D.Domain.holds self.now.measured.schema))) self.now.measured.schema.states result }
+        ensures live { LiveMask (automaton_over permitted D.Domain.holds self.now.measured.schema) self.now.measured.schema.states result }
+        ensures ranks { RankMask (automaton_over permitted D.Domain.holds self.now.measured.schema) self.now.measured.schema.states result }
     {
         self.ranks_over(permitted).live
     }
 
     /// The live states, one a bit.
     pub fn live_states(&self) -> u64
-        ensures live { LiveMask (automaton (tables self.now.measured.schema) (sets D.Domain.holds self.now.measured.schema)) self.now.measured.schema.states result }
-        ensures ranks { RankMask (automaton (tables self.now.measured.schema) (sets D.Domain.holds self.now.measured.schema)) self.now.measured.schema.states result }
+        ensures live { LiveMask (automaton_of D.Domain.holds self.now.measured.schema) self.now.measured.schema.states result }
+        ensures ranks { RankMask (automaton_of D.Domain.holds self.now.measured.schema) self.now.measured.schema.states result }
     {
         self.ranks().live
     }
@@ -122,8 +116,8 @@ impl<D: Domain> Tested<'_, D> {
 
 /// The states that accept a finite tree, as a mask: bit i for state i, and no bit past the states; or the refusal of the tables.
 pub fn live<D: Domain>(schema: &Schema<D>) -> Result<u64, Refusal>
-    ensures answer { MatchResult result (LiveMask (automaton (tables schema.now) (sets D.Domain.holds schema.now)) schema.now.states) (λ e. table_fault (tables schema.now) ≡ Some e) }
-    ensures ranks { IfOk result (RankMask (automaton (tables schema.now) (sets D.Domain.holds schema.now)) schema.now.states) }
+    ensures answer { MatchResult result (LiveMask (automaton_of D.Domain.holds schema.now) schema.now.states) (λ e. table_fault (tables schema.now) ≡ Some e) }
+    ensures ranks { IfOk result (RankMask (automaton_of D.Domain.holds schema.now) schema.now.states) }
     ensures example { LeadsBackDead }
 {
     let tested = Tested::new(schema)?;

@@ -3,6 +3,7 @@ ghost use Rattle.std.specs.Prelude.{◌≡◌, ◌^◌, ◌<◌, false, Some, Ma
 ghost use Rattle.schema.specs.Tables.{tables, transition_byte, state_byte, first_row, row_start, «end_mark», row_byte};
 ghost use Rattle.schema.specs.Faults.{size_wrong, size_fault};
 
+use crate::faults::NONE;
 use crate::tables::{STATE_BYTES, Schema};
 use refusal::fault::{Fault, Refusal};
 
@@ -28,10 +29,7 @@ impl<'a, D> Measured<'a, D> {
         if schema.counts_fit() && schema.lengths_fit() {
             Ok(Measured { schema: *schema })
         } else {
-            Err(Refusal {
-                fault: Fault::Size,
-                place: 0,
-            })
+            Err(Fault::Size.at(0))
         }
     }
 
@@ -42,7 +40,7 @@ impl<'a, D> Measured<'a, D> {
         byte_at(
             self.schema.transitions,
             state as usize * self.schema.symbols + symbol as usize,
-            255,
+            NONE,
         )
     }
 
@@ -87,7 +85,7 @@ impl<'a, D> Measured<'a, D> {
         byte_at(
             self.schema.row_table,
             self.row_start(state, row) + 1 + symbol as usize,
-            255,
+            NONE,
         )
     }
 }

@@ -31,7 +31,7 @@ pub struct Schema<'a, D> {
 fn is_within(count: usize, most: usize) -> bool
     ensures { result ≡ not (outside 1 most count) }
 {
-    1 <= count && count <= most
+    (1..=most).contains(&count)
 }
 
 impl<D> Schema<'_, D> {

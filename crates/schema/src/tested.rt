@@ -1,6 +1,8 @@
 //! A schema that passed every test of its tables, and its automaton by look-up.
-ghost use Rattle.std.specs.Prelude.{◌≡◌, ℕ, Bool, false, List, Some, MatchResult};
-ghost use Rattle.schema.specs.Tables.{entry, tables, sets, automaton};
+ghost use Rattle.std.specs.Prelude.{◌≡◌, ℕ, ◌^◌, ◌<◌, Bool, false, List, Some, MatchOption, MatchResult};
+ghost use Rattle.std.specs.Slice.{IsItemAt};
+ghost use Rattle.domain.specs.Sets.{Empty};
+ghost use Rattle.schema.specs.Tables.{entry, tables, domain_number, automaton, automaton_of};
 ghost use Rattle.schema.specs.Faults.{faulty, table_fault, either_fault};
 
 use crate::faults::NONE;
@@ -20,7 +22,7 @@ pub struct Tested<'a, D> {
 fn known(byte: u8) -> Option<u8>
     ensures { result ≡ entry byte }
 {
-    if byte == NONE { None } else { Some(byte) }
+    (byte != NONE).then_some(byte)
 }
 
 impl<'a, D> Tested<'a, D> {
@@ -29,36 +31,24 @@ impl<'a, D> Tested<'a, D> {
         ensures { MatchResult result (λ t. t.measured.schema ≡ schema.now) (λ e. table_fault (tables schema.now) ≡ Some e) }
     {
         let measured = Measured::new(schema)?;
-        if let Some(refusal) = measured.first_fault(Fault::State) {
-            return Err(refusal);
-        }
-        if let Some(refusal) = measured.first_fault(Fault::Row) {
-            return Err(refusal);
-        }
-        if let Some(refusal) = measured.first_fault(Fault::Domain) {
-            return Err(refusal);
-        }
+        measured.first_fault(Fault::State)?;
+        measured.first_fault(Fault::Row)?;
+        measured.first_fault(Fault::Domain)?;
         Ok(Tested { measured })
     }
 
     /// Two schemas, each test of the first before the same of the second, and that before the next.
-    pub fn both(
+    pub fn both<'b>(
         first: &Schema<'a, D>,
-        second: &Schema<'a, D>,
-    ) -> Result<(Tested<'a, D>, Tested<'a, D>), Refusal>
+        second: &Schema<'b, D>,
+    ) -> Result<(Tested<'a, D>, Tested<'b, D>), Refusal>
         ensures { MatchResult result (λ t. (t.0.measured.schema ≡ first.now) × (t.1.measured.schema ≡ second.now)) (λ e. either_fault (tables first.now) (tables second.now) ≡ Some e) }
     {
         let first = Measured::new(first)?;
         let second = Measured::new(second)?;
-        if let Some(refusal) = first.either_fault(&second, Fault::State) {
-            return Err(refusal);
-        }
-        if let Some(refusal) = first.either_fault(&second, Fault::Row) {
-            return Err(refusal);
-        }
-        if let Some(refusal) = first.either_fault(&second, Fault::Domain) {
-            return Err(refusal);
-        }
+        first.either_fault(&second, Fault::State)?;
+        first.either_fault(&second, Fault::Row)?;
+        first.either_fault(&second, Fault::Domain)?;
         Ok((Tested { measured: first }, Tested { measured: second }))
     }
 
@@ -107,18 +97,21 @@ impl<'a, D> Tested<'a, D> {
 }
 
 impl<D: Domain> Tested<'_, D> {
-    /// Whether the state's domain has a value.
-    pub fn has(&self, state: u8, value: u32) -> bool
-        ensures { result ≡ (automaton (tables self.now.measured.schema) (sets D.Domain.holds self.now.measured.schema)).has state value }
+    /// The domain with the state's number.
+    pub fn domain(&self, state: u8) -> Option<&D>
+        ensures listed { IsItemAt self.now.measured.schema.domains.now (domain_number (tables self.now.measured.schema) state) result }
+        ensures values { MatchOption result (Empty ((automaton_of D.Domain.holds self.now.measured.schema).has state)) (λ d. (v : ℕ) → v < 2 ^ 32 → D.Domain.holds d.now v ≡ (automaton_of D.Domain.holds self.now.measured.schema).has state v) }
     {
-        match self
-            .measured
+        self.measured
             .schema
             .domains
             .get(self.measured.state_byte(state, 0) as usize)
-        {
-            Some(domain) => domain.has(value),
-            None => false,
-        }
+    }
+
+    /// Whether the state's domain has a value.
+    pub fn has(&self, state: u8, value: u32) -> bool
+        ensures { result ≡ (automaton_of D.Domain.holds self.now.measured.schema).has state value }
+    {
+        self.domain(state).is_some_and(|domain| domain.has(value))
     }
 }

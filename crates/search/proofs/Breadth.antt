@@ -1,20 +1,12 @@
 -- Breadth first: what a search over places knows midway, and why the first goal is a nearest one. Assumes nothing.
-use Rattle.std.proofs.Common.{◌≡◌, ℕ, ◌+◌, ◌<◌, ◌≤◌, Bool, true, false, ◌⊎◌, List, [], ◌∷◌, ◌++◌, length, Some, None, Option, sym, refl, ap, ◌∙◌, subst, inl, inr, ⊎_elim, arith}
+use Rattle.std.proofs.Common.{◌≡◌, ℕ, ◌+◌, ◌<◌, ◌≤◌, Bool, true, false, ◌⊎◌, List, [], ◌∷◌, ◌++◌, length, Some, Option, sym, refl, ap, ◌∙◌, subst, inl, inr, ⊎_elim, arith}
 use Rattle.std.specs.List.{slice_get}
+use Rattle.std.specs.Option.{option_and_then}
 use Rattle.std.proofs.lemmas.Bool.{both_ways, cases_lt}
-use Rattle.codec.proofs.Entries.{inside_some}
+use Rattle.std.proofs.lemmas.Option.{none-some, option_and_then_some, same_Some, slice_get_within}
 use Rattle.search.specs.declared.pairs.RowPair.{RowPair}
 use Rattle.search.specs.Pairs.{Traces}
-use Rattle.search.proofs.Places.{some_same, none_some, nth_kept, nth_new, nth_cases, nth_inside}
-
--- what is there goes on
-abbrev pub onward : {X Y : Type 0} → Option X → (X → Option Y) → Option Y
-onward (Some x) f = f x
-onward None f = None
-
-pub onward_some : {X Y : Type 0} (o : Option X) (f : X → Option Y) (y : Y) → onward o f ≡ Some y → (x : X) × (o ≡ Some x) × (f x ≡ Some y)
-onward_some (Some x) f y is = (x, refl, is)
-onward_some None f y is = absurd (none_some is)
+use Rattle.search.proofs.Places.{nth_kept, nth_new, nth_cases, nth_inside}
 
 -- a sequence that is read off stays so with one entry more
 pub traces_kept : (es : List RowPair) (f : RowPair) (w : List ℕ) (i : ℕ) → Traces es i w → Traces (es ++ f ∷ []) i w
@@ -31,14 +23,14 @@ module _ {N : Type 0} (move : N → ℕ → Option N) (goal : N → Bool) (start
   -- where a sequence leads to, its last symbol first
   abbrev pub leads : List ℕ → Option N
   leads [] = Some start
-  leads (a ∷ w) = onward (leads w) (λ n. move n a)
+  leads (a ∷ w) = option_and_then (λ n. move n a) (leads w)
 
   -- symbol a was tried at entry i: all were at the entries below k, and those below b at entry k
   abbrev pub Tried : ℕ → ℕ → ℕ → ℕ → Type 0
   Tried k b i a = (i < k) ⊎ ((i ≡ k) × (a < b))
 
-  -- a place that is listed, and was found from an entry up to i
-  pub record Listed (es : List RowPair) (i : ℕ) (n : N) : Type 0 where
+  -- a place that was met: it is that of an entry, which was found from an entry up to i
+  pub record Met (es : List RowPair) (i : ℕ) (n : N) : Type 0 where
     pub at : ℕ
     pub entry : RowPair
     pub is : slice_get es at ≡ Some entry
@@ -52,7 +44,7 @@ module _ {N : Type 0} (move : N → ℕ → Option N) (goal : N → Bool) (start
     pub quiet : (i : ℕ) (e : RowPair) → slice_get es i ≡ Some e → goal (node e) ≡ false
     pub rising : (i j : ℕ) (e f : RowPair) → i ≤ j → slice_get es i ≡ Some e → slice_get es j ≡ Some f → e.parent ≤ f.parent
     pub upto : (i : ℕ) (e : RowPair) → slice_get es i ≡ Some e → e.parent ≤ k
-    pub closed : (i : ℕ) (e : RowPair) (a : ℕ) (n : N) → slice_get es i ≡ Some e → Tried k b i a → move (node e) a ≡ Some n → Listed es i n
+    pub closed : (i : ℕ) (e : RowPair) (a : ℕ) (n : N) → slice_get es i ≡ Some e → Tried k b i a → move (node e) a ≡ Some n → Met es i n
 
   module _ (es : List RowPair) (k b : ℕ) (m : Midway es k b) where
     -- the sequences of entries never get shorter along the pile
@@ -71,23 +63,23 @@ module _ {N : Type 0} (move : N → ℕ → Option N) (goal : N → Bool) (start
     Ahead w = (e : RowPair) × (slice_get es k ≡ Some e) × ((u : List ℕ) × Traces es k u × (length u < length w))
 
     -- one symbol more than the sequence of an entry that was tried
-    one_more : (w : List ℕ) (a i : ℕ) (e : RowPair) (n : N) (u : List ℕ) → slice_get es i ≡ Some e → Traces es i u → length u ≤ length w → Listed es i n → Reached (a ∷ w) n
+    one_more : (w : List ℕ) (a i : ℕ) (e : RowPair) (n : N) (u : List ℕ) → slice_get es i ≡ Some e → Traces es i u → length u ≤ length w → Met es i n → Reached (a ∷ w) n
     one_more w a i e n u is t short l =
         let v = m.led l.at l.entry l.is in
         (l.at, l.entry, l.is, l.same, (v.0, v.1, by v.0 v.1))
       where
         by : (v : List ℕ) → Traces es l.at v → length v ≤ length (a ∷ w)
         by [] s = omega arith
-        by (c ∷ v) s = let same : s.0 ≡ l.entry = some_same (sym s.1 ∙ l.is) in
+        by (c ∷ v) s = let same : s.0 ≡ l.entry = same_Some _ _ (sym s.1 ∙ l.is) in
             omega (arith, deeper v u s.0.parent i (omega (arith, l.from, ap {B = ℕ} (λ (x : RowPair). x.parent) same)) s.4 t)
 
     -- where a sequence leads is listed, or the entry that is being tried has a shorter one
     either : (w : List ℕ) (n : N) → leads w ≡ Some n → Reached w n ⊎ Ahead w
     either [] n to =
         let e = m.bottom in
-        inl (0, e.0, e.1, e.2 ∙ some_same to, ([], refl, omega arith))
+        inl (0, e.0, e.1, e.2 ∙ same_Some _ _ to, ([], refl, omega arith))
     either (a ∷ w) n to =
-        let by_way = onward_some (leads w) (λ x. move x a) n to in
+        let by_way : (x : N) × (leads w ≡ Some x) × (move x a ≡ Some n) = option_and_then_some (λ x. move x a) (leads w) n to (λ x is on. (x, is, on)) in
         ⊎_elim
         (λ r.
         let i = r.0 in
@@ -96,7 +88,7 @@ module _ {N : Type 0} (move : N → ℕ → Option N) (goal : N → Bool) (start
         ⊎_elim
         (λ done. inl (one_more w a i e n u.0 r.2 u.1 u.2 (m.closed i e a n r.2 (inl done) (ap (λ x. move x a) r.3 ∙ by_way.2))))
         (λ ahead.
-        let here = nth_inside es k (omega (arith, inside_some es i e r.2)) in
+        let here = nth_inside es k (omega (arith, slice_get_within es i e r.2)) in
         let v = m.led k here.0 here.1 in
         inr (here.0, here.1, (v.0, v.1, omega (arith, deeper v.0 u.0 k i ahead v.1 u.1, u.2))))
         (cases_lt i k))
@@ -108,7 +100,7 @@ module _ {N : Type 0} (move : N → ℕ → Option N) (goal : N → Bool) (start
     none_left past w n to there =
         ⊎_elim
         (λ r. both_ways (goal n) (subst (λ x. goal x ≡ false) r.3 (m.quiet r.0 r.1 r.2)) there)
-        (λ h. omega (arith, inside_some es k h.0 h.1))
+        (λ h. omega (arith, slice_get_within es k h.0 h.1))
         (either w n to)
 
     -- a sequence that leads to a goal is longer than that of the entry which is being tried
@@ -122,7 +114,7 @@ module _ {N : Type 0} (move : N → ℕ → Option N) (goal : N → Bool) (start
     -- the entry that is being tried
     module _ (e : RowPair) (here : slice_get es k ≡ Some e) where
       -- one symbol more was tried there: what it leads to is listed
-      pub tried : ((n : N) → move (node e) b ≡ Some n → Listed es k n) → Midway es k (b + 1)
+      pub tried : ((n : N) → move (node e) b ≡ Some n → Met es k n) → Midway es k (b + 1)
       tried known =
           record {
             bottom = m.bottom;
@@ -138,8 +130,8 @@ module _ {N : Type 0} (move : N → ℕ → Option N) (goal : N → Bool) (start
                 (λ low. m.closed i f a n is (inr (at.0, low)) to)
                 (λ up.
                 let last : a ≡ b = omega (arith, at.1) in
-                let same : f ≡ e = some_same (sym is ∙ ap (slice_get es) at.0 ∙ here) in
-                subst (λ (x : ℕ). Listed es x n) (sym at.0) (known n (sym (ap (λ x. move (node x) b) same) ∙ sym (ap (move (node f)) last) ∙ to)))
+                let same : f ≡ e = same_Some _ _ (sym is ∙ ap (slice_get es) at.0 ∙ here) in
+                subst (λ (x : ℕ). Met es x n) (sym at.0) (known n (sym (ap (λ x. move (node x) b) same) ∙ sym (ap (move (node f)) last) ∙ to)))
                 (cases_lt a b))
                 t;
           }
@@ -160,7 +152,7 @@ module _ {N : Type 0} (move : N → ℕ → Option N) (goal : N → Bool) (start
                 (λ before. m.closed i f a n is (inl before) to)
                 (λ up.
                 let at : i ≡ k = omega arith in
-                let same : f ≡ e = some_same (sym is ∙ ap (slice_get es) at ∙ here) in
+                let same : f ≡ e = same_Some _ _ (sym is ∙ ap (slice_get es) at ∙ here) in
                 m.closed i f a n is (inr (at, all a n (sym (ap (λ x. move (node x) a) same) ∙ to))) to)
                 (cases_lt i k))
                 (λ at. absurd (omega (arith, at.1)))
@@ -187,10 +179,10 @@ module _ {N : Type 0} (move : N → ℕ → Option N) (goal : N → Bool) (start
         unfolding new_sequence
         new_leads =
             let u = m.led k e here in
-            let below : f.parent < length es = omega (arith, inside_some es k e here) in
+            let below : f.parent < length es = omega (arith, slice_get_within es k e here) in
             record {
               read = (f, nth_new f es, refl, below, subst (λ (i : ℕ). Traces more i u.0) (sym parent) (traces_kept es f u.0 k u.1));
-              leads_to = ap (λ o. onward o (λ n. move n f.symbol)) u.2 ∙ to;
+              leads_to = ap (option_and_then (λ n. move n f.symbol)) u.2 ∙ to;
               before = u.0;
               before_read = u.1;
               longer = omega arith;
@@ -198,7 +190,7 @@ module _ {N : Type 0} (move : N → ℕ → Option N) (goal : N → Bool) (start
 
         pub grown : goal (node f) ≡ false → Midway more k b
         grown not-goal =
-            let inside = inside_some es k e here in
+            let inside = slice_get_within es k e here in
             record {
               bottom = let first = m.bottom in (first.0, nth_kept f es 0 first.0 first.1, first.2);
               led = λ i x is.
@@ -216,7 +208,7 @@ module _ {N : Type 0} (move : N → ℕ → Option N) (goal : N → Bool) (start
                   (nth_cases f es j y is'))
                   (λ new.
                   ⊎_elim
-                  (λ old'. absurd (omega (arith, inside_some es j y old', new.0)))
+                  (λ old'. absurd (omega (arith, slice_get_within es j y old', new.0)))
                   (λ new'. omega (arith, ap {B = ℕ} (λ (z : RowPair). z.parent) new.1, ap {B = ℕ} (λ (z : RowPair). z.parent) new'.1))
                   (nth_cases f es j y is'))
                   (nth_cases f es i x is);
@@ -228,7 +220,7 @@ module _ {N : Type 0} (move : N → ℕ → Option N) (goal : N → Bool) (start
                   (nth_cases f es i x is);
             }
           where
-            kept_listed : (i : ℕ) (n : N) → Listed es i n → Listed more i n
+            kept_listed : (i : ℕ) (n : N) → Met es i n → Met more i n
             kept_listed i n l = record { at = l.at; entry = l.entry; is = nth_kept f es l.at l.entry l.is; same = l.same; from = l.from }
 
   -- before anything was tried: the bottom entry alone
@@ -244,4 +236,4 @@ module _ {N : Type 0} (move : N → ℕ → Option N) (goal : N → Bool) (start
       }
     where
       only : (i : ℕ) (f : RowPair) → slice_get (e ∷ []) i ≡ Some f → (i ≡ 0) × (e ≡ f)
-      only i f is = ⊎_elim (λ old. absurd (none_some old)) (λ new. new) (nth_cases e [] i f is)
+      only i f is = ⊎_elim (λ old. absurd (none-some _ old)) (λ new. new) (nth_cases e [] i f is)

@@ -2,6 +2,8 @@
 use Rattle.std.proofs.Common.{◌≡◌, ℕ, ◌<◌, min, Bool, true, false, cond, not, ◌&&◌, ◌||◌, eqb, ltb, List, [], ◌∷◌, ◌++◌, Some, None, Decides, Option, sym, refl, ap, ◌∙◌, ⊎_elim, arith}
 use Rattle.std.proofs.lemmas.Bool.{and_right, both_ways, cases_Bool, cond-true, eqb-true, eq-eqb, lt-ltb, not_from_false}
 use Rattle.schema.specs.Automata.{Automaton, passes, present, row_runs, has_next, allowed}
+use Rattle.schema.specs.Tables.{tables, sets, automaton, automaton_of}
+use Rattle.schema.specs.declared.tested.Tested.{Tested}
 use Rattle.search.specs.Watching.{watched, wanted, holding, Holds, row_or_gone, refusing}
 use Rattle.search.proofs.Underway.{Fenced}
 
@@ -34,26 +36,12 @@ module _ (a : ℕ) where
   pub wants_held : (w : List ℕ) → Decides (wanted (holding a) w) (Holds a w)
   wants_held w = (held w, λ h. ap (λ l. eqb (watched (holding a) 0 l) 1) h.2 ∙ ap (λ (x : ℕ). eqb x 1) (holds h.0 h.1))
 
--- one symbol more at a state of another schema
-module _ (A : Automaton) (p s b : ℕ) where
-  pub after_no_row : A.step p s b ≡ None → 16 ≡ (refusing A p).after s b
-  after_no_row none = by (ltb s 16) (A.step p s b) none
-    where
-      by : (t : Bool) (o : Option ℕ) → o ≡ None → 16 ≡ cond t (row_or_gone o (A.next p b)) 16
-      by true o none = sym (ap (λ o. row_or_gone o (A.next p b)) none)
-      by false o none = refl
-
-  pub after_no_state : A.next p b ≡ None → 16 ≡ (refusing A p).after s b
-  after_no_state none = by (ltb s 16) (A.step p s b) (A.next p b) none
-    where
-      by : (t : Bool) (o n : Option ℕ) → n ≡ None → 16 ≡ cond t (row_or_gone o n) 16
-      by true (Some r) n none = sym (ap (row_or_gone (Some r)) none)
-      by true None n none = refl
-      by false o n none = refl
-
-  pub after_both : (r q : ℕ) → s < 16 → A.step p s b ≡ Some r → A.next p b ≡ Some q → min r 16 ≡ (refusing A p).after s b
-  after_both r q low row state =
-      sym (cond-true (ltb s 16) (row_or_gone (A.step p s b) (A.next p b)) 16 (lt-ltb s 16 low) ∙ ap (λ o. row_or_gone o (A.next p b)) row ∙ ap (row_or_gone (Some r)) state)
+-- one symbol more, from the next row and the next state there
+pub row_after : {D : Type 0} (holds : D → ℕ → Bool) (t : Tested D) (p s b : ℕ) (row state : Option ℕ) → s < 16 → ((ds : List (ℕ → Bool)) → row ≡ (automaton (tables t.measured.schema) ds).step p s b) → ((ds : List (ℕ → Bool)) → state ≡ (automaton (tables t.measured.schema) ds).next p b) → row_or_gone row state ≡ (refusing (automaton_of holds t.measured.schema) p).after s b
+row_after holds t p s b row state low step next =
+    let A = automaton_of holds t.measured.schema in
+    let ds = sets holds t.measured.schema in
+    ap (λ o. row_or_gone o state) (step ds) ∙ ap (row_or_gone (A.step p s b)) (next ds) ∙ sym (cond-true (ltb s 16) (row_or_gone (A.step p s b) (A.next p b)) 16 (lt-ltb s 16 low))
 
 module _ (A : Automaton) (p rows symbols : ℕ) (fence : Fenced A p rows symbols) where
   -- gone for good

@@ -1,17 +1,12 @@
 -- Entries of a list by their place, with one entry more. Assumes nothing.
-use Rattle.std.proofs.Common.{◌≡◌, ℕ, zero, suc, ◌<◌, ◌⊎◌, List, [], ◌∷◌, ◌++◌, length, Some, None, Option, refl, ap, inl, inr, ⊎_elim, arith}
+use Rattle.std.proofs.Common.{◌≡◌, ℕ, zero, suc, ◌<◌, ◌⊎◌, List, [], ◌∷◌, ◌++◌, length, Some, refl, ap, inl, inr, ⊎_elim, arith}
 use Rattle.std.specs.List.{slice_get}
-
-pub some_same : {X : Type 0} {a b : X} → ◌≡◌ {A = Option X} (Some a) (Some b) → a ≡ b
-some_same e = cc
-
-pub none_some : {X : Type 0} {x : X} → ◌≡◌ {A = Option X} None (Some x) → ⊥
-none_some e = let z : ◌≡◌ {A = ℕ} 0 1 = cc in omega arith
+use Rattle.std.proofs.lemmas.Option.{none-some, same_Some}
 
 module _ {X : Type 0} (y : X) where
   -- an entry stays where it is
   pub nth_kept : (xs : List X) (i : ℕ) (x : X) → slice_get xs i ≡ Some x → slice_get (xs ++ y ∷ []) i ≡ Some x
-  nth_kept [] i x is = absurd (none_some is)
+  nth_kept [] i x is = absurd (none-some _ is)
   nth_kept (z ∷ xs) zero x is = is
   nth_kept (z ∷ xs) (suc i) x is = nth_kept xs i x is
 
@@ -21,8 +16,8 @@ module _ {X : Type 0} (y : X) where
   nth_new (z ∷ xs) = nth_new xs
 
   pub nth_cases : (xs : List X) (i : ℕ) (x : X) → slice_get (xs ++ y ∷ []) i ≡ Some x → (slice_get xs i ≡ Some x) ⊎ ((i ≡ length xs) × (y ≡ x))
-  nth_cases [] zero x is = inr (refl, some_same is)
-  nth_cases [] (suc i) x is = absurd (none_some is)
+  nth_cases [] zero x is = inr (refl, same_Some _ _ is)
+  nth_cases [] (suc i) x is = absurd (none-some _ is)
   nth_cases (z ∷ xs) zero x is = inl is
   nth_cases (z ∷ xs) (suc i) x is = ⊎_elim inl (λ new. inr (ap suc new.0, new.1)) (nth_cases xs i x is)
 

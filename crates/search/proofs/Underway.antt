@@ -1,37 +1,45 @@
--- A search under way: the pile, the table and the cursor from turn to turn, and the answers. Assumes nothing.
+-- A search under way: the pile, the listed pairs and the cursor from turn to turn, and the answers. Assumes nothing.
 use Rattle.std.proofs.Common.{◌≡◌, ℕ, ◌+◌, ◌<◌, ◌≤◌, Bool, true, false, ◌&&◌, ◌||◌, eqb, List, [], ◌∷◌, ◌++◌, reverse, length, Some, None, Option, sym, ap, ◌∙◌, subst, ⊎_elim, arith}
 use Rattle.std.specs.List.{slice_get}
-use Rattle.std.proofs.lemmas.List.{length_push, length-reverse, length-take-le, reverse-reverse}
+use Rattle.std.proofs.lemmas.List.{length_push, length-reverse, reverse-reverse}
 use Rattle.std.proofs.lemmas.Bool.{both_ways, cases_lt}
-use Rattle.codec.specs.Piles.{entries}
+use Rattle.std.proofs.lemmas.Option.{none-some, same_Some}
+use Rattle.codec.specs.Piles.{slots, Stack}
+use Rattle.domain.specs.Kinds.{bit}
 use Rattle.schema.specs.Automata.{Automaton}
-use Rattle.schema.specs.Faults.{faulty}
-use Rattle.schema.specs.Tables.{Tables, automaton, row_count}
+use Rattle.schema.specs.Tables.{tables, sets, automaton_of, row_count}
+use Rattle.schema.specs.declared.tables.Schema.{Schema}
+use Rattle.schema.specs.declared.tested.Tested.{Tested}
+use Rattle.schema.proofs.Sizes.{sized}
 use Rattle.schema.proofs.Sound.{sound}
+use Rattle.search.specs.declared.listed.Listed.{Listed}
 use Rattle.search.specs.declared.pairs.RowPair.{RowPair}
+use Rattle.search.specs.declared.search.Question.{Question}
 use Rattle.search.specs.Listing.{lists, Added, Known, Enlists}
 use Rattle.search.specs.Pairs.{Traces, first_pair, next_pair, goal, Finds}
+use Rattle.search.specs.Questions.{automaton_asked}
 use Rattle.search.specs.Sequences.{Sought}
-use Rattle.search.specs.Watching.{Watching}
-use Rattle.search.proofs.Breadth.{not_deeper, leads, Listed, Midway, none_left, longer, tried, done, new_sequence, new_leads, grown, begun}
+use Rattle.search.specs.Watching.{Watching, StatesBelow}
+use Rattle.search.proofs.Breadth.{not_deeper, leads, Met, Midway, none_left, longer, tried, done, new_sequence, new_leads, grown, begun}
 use Rattle.search.proofs.Listing.{Noted, nothing_noted, noted_few, room_left, noted_more}
 use Rattle.search.proofs.Moves.{Place, place_of, move, is_goal, first, move_steps, sought_of_goal, goal_of_sought, pair_moves, pair_stays}
-use Rattle.search.proofs.Places.{some_same, none_some, nth_kept, nth_new, nth_cases, nth_inside}
+use Rattle.search.proofs.Places.{nth_kept, nth_new, nth_cases, nth_inside}
 
--- the rows of a state: some, at most 16, leading to one another, and only under the schema's symbols
+-- the rows of a state: some, at most 16, leading to one another, and only under the schema's symbols, of which there are at most 32
 pub record Fenced (A : Automaton) (q rows symbols : ℕ) : Type 0 where
   pub some : 0 < rows
   pub few : rows ≤ 16
   pub stays : (r a j : ℕ) → r < rows → A.step q r a ≡ Some j → j < rows
   pub known : (r a j : ℕ) → A.step q r a ≡ Some j → a < symbols
+  pub short : symbols ≤ 32
 
--- such are the rows of tables without a fault
-pub fenced : (T : Tables) (domains : List (ℕ → Bool)) (q : ℕ) → faulty T ≡ false → q < T.states → Fenced (automaton T domains) q (row_count T q) T.symbols
-fenced T domains q fine low =
-    let s = sound T domains fine in
-    record { some = (s.rows q low).from; few = (s.rows q low).to; stays = λ r a j inside is. s.step_in q r a j low inside is; known = λ r a j is. s.step_symbol q r a j is }
+-- such are the rows of a tested schema
+pub fenced : {D : Type 0} (holds : D → ℕ → Bool) (t : Tested D) (q : ℕ) → q < t.measured.schema.states → Fenced (automaton_of holds t.measured.schema) q (row_count (tables t.measured.schema) q) t.measured.schema.symbols
+fenced holds t q low =
+    let s = sound (tables t.measured.schema) (sets holds t.measured.schema) t.sound in
+    record { some = (s.rows q low).from; few = (s.rows q low).to; stays = λ r a j inside is. s.step_in q r a j low inside is; known = λ r a j is. s.step_symbol q r a j is; short = (sized (tables t.measured.schema) t.measured.sized).symbols.to }
 
-module _ (A : Automaton) (q : ℕ) (set : ℕ → Bool) (W : Watching) (rows : ℕ) where
+module _ (A : Automaton) (q : ℕ) (set : ℕ → Bool) (W : Watching) (rows symbols : ℕ) where
   abbrev go : Place → ℕ → Option Place
   go = move A q set W
 
@@ -45,16 +53,18 @@ module _ (A : Automaton) (q : ℕ) (set : ℕ → Bool) (W : Watching) (rows : �
   Half es k b = Midway go at_goal from place_of es k b
 
   -- entry k is being tried, its symbols below b were; each entry's row is one of the state's
-  pub record Underway (table : List ℕ) (slots : List RowPair) (count k b : ℕ) : Type 0 where
-    pub midway : Half (entries slots count) k b
-    pub noted : Noted table (entries slots count)
-    pub inside : (i : ℕ) (e : RowPair) → slice_get (entries slots count) i ≡ Some e → e.row < rows
-    pub room : 272 ≤ length slots
+  pub record Underway (l : Listed) (pile : Stack RowPair) (k b : ℕ) : Type 0 where
+    pub fence : Fenced A q rows symbols
+    pub below : StatesBelow 17 W
+    pub midway : Half pile.entries k b
+    pub noted : Noted l pile.entries
+    pub inside : (i : ℕ) (e : RowPair) → slice_get pile.entries i ≡ Some e → e.row < rows
+    pub room : 272 ≤ slots pile
 
   -- and p is that entry
-  pub record Trying (table : List ℕ) (slots : List RowPair) (count k b : ℕ) (p : RowPair) : Type 0 where
-    pub under : Underway table slots count k b
-    pub here : slice_get (entries slots count) k ≡ Some p
+  pub record Trying (l : Listed) (pile : Stack RowPair) (k b : ℕ) (p : RowPair) : Type 0 where
+    pub under : Underway l pile k b
+    pub here : slice_get pile.entries k ≡ Some p
 
   -- a sequence read off at an entry, its last symbol first, is what a search finds
   answered : (es : List RowPair) (i : ℕ) (w : List ℕ) (n : Place) → Traces es i w → leads go at_goal from place_of w ≡ Some n → at_goal n ≡ true → ((v : List ℕ) → Sought A q set W v → length w ≤ length v) → i < length es → i < 272 → Finds A q set W es (Some i)
@@ -68,145 +78,172 @@ module _ (A : Automaton) (q : ℕ) (set : ℕ → Bool) (W : Watching) (rows : �
       }
 
   -- the ends of a search
-  module _ {table : List ℕ} {slots : List RowPair} {count k b : ℕ} (within : count ≤ length slots) (u : Underway table slots count k b) where
-    -- there are no more entries than pairs
-    pub at_most : count ≤ 272
-    at_most = omega (arith, noted_few table (entries slots count) u.noted, length-take-le count slots within)
-
+  module _ {l : Listed} {pile : Stack RowPair} {k b : ℕ} (u : Underway l pile k b) where
     -- all entries were tried
-    pub nothing_sought : count ≤ k → Finds A q set W (entries slots count) None
+    nothing_sought : length pile.entries ≤ k → Finds A q set W pile.entries None
     nothing_sought past = λ w s.
         let g = goal_of_sought A q set W w s in
-        none_left go at_goal from place_of (entries slots count) k b u.midway (omega (arith, length-take-le count slots within)) (reverse w) g.place g.to g.there
+        none_left go at_goal from place_of pile.entries k b u.midway past (reverse w) g.place g.to g.there
 
-    pub past_end : slice_get (entries slots count) k ≡ None → count ≤ k
+    -- as many as there are pairs
+    pub all_tried : 272 ≤ k → Finds A q set W pile.entries None
+    all_tried most = nothing_sought (omega (arith, most, noted_few l pile.entries u.noted))
+
+    -- there is no entry any more
+    pub past_end : slice_get pile.entries k ≡ None → Finds A q set W pile.entries None
     past_end none =
-        ⊎_elim
-        (λ low. let e = nth_inside (entries slots count) k (omega (arith, length-take-le count slots within)) in absurd (none_some (sym none ∙ e.1)))
+        nothing_sought
+        (⊎_elim
+        (λ low. let e = nth_inside pile.entries k low in absurd (none-some _ (sym none ∙ e.1)))
         (λ past. past)
-        (cases_lt k count)
+        (cases_lt k (length pile.entries)))
 
-  module _ {symbols : ℕ} (fence : Fenced A q rows symbols) where
-    -- a symbol at the entry that is being tried
-    module _ {table : List ℕ} {slots : List RowPair} {count k b : ℕ} {p : RowPair} (within : count ≤ length slots) (t : Trying table slots count k b p) where
-      abbrev es : List RowPair
-      es = entries slots count
+  -- a symbol at the entry that is being tried
+  module _ {l : Listed} {pile : Stack RowPair} {k b : ℕ} {p : RowPair} (t : Trying l pile k b p) where
+    abbrev es : List RowPair
+    es = pile.entries
 
-      tried_there : ((n : Place) → go (place_of p) b ≡ Some n → Listed go at_goal from place_of es k n) → Trying table slots count k (b + 1) p
-      tried_there known =
-          let u = t.under in
-          record {
-            under = record { midway = tried go at_goal from place_of es k b u.midway p t.here known; noted = u.noted; inside = u.inside; room = u.room };
-            here = t.here;
-          }
+    tried_there : ((n : Place) → go (place_of p) b ≡ Some n → Met go at_goal from place_of es k n) → Trying l pile k (b + 1) p
+    tried_there known =
+        let u = t.under in
+        record {
+          under = record { fence = u.fence; below = u.below; midway = tried go at_goal from place_of es k b u.midway p t.here known; noted = u.noted; inside = u.inside; room = u.room };
+          here = t.here;
+        }
 
-      -- all symbols were tried
-      pub next_entry : symbols ≤ b → Underway table slots count (k + 1) 0
-      next_entry all =
-          let u = t.under in
-          record {
-            midway = done go at_goal from place_of es k b u.midway p t.here (λ a n to. omega (arith, fence.known p.row a n.row (move_steps A q set W (place_of p) n a to)));
-            noted = u.noted;
-            inside = u.inside;
-            room = u.room;
-          }
+    -- all symbols were tried
+    pub next_entry : symbols ≤ b → Underway l pile (k + 1) 0
+    next_entry all =
+        let u = t.under in
+        record {
+          fence = u.fence;
+          below = u.below;
+          midway = done go at_goal from place_of es k b u.midway p t.here (λ a n to. omega (arith, u.fence.known p.row a n.row (move_steps A q set W (place_of p) n a to)));
+          noted = u.noted;
+          inside = u.inside;
+          room = u.room;
+        }
 
-      -- it leads nowhere
-      pub leads_nowhere : next_pair A q set W p b k ≡ None → Trying table slots count k (b + 1) p
-      leads_nowhere none = tried_there (λ n to. absurd (pair_stays A q set W p b k n none to))
+    -- it leads nowhere
+    pub leads_nowhere : next_pair A q set W p b k ≡ None → Trying l pile k (b + 1) p
+    leads_nowhere none = tried_there (λ n to. absurd (pair_stays A q set W p b k n none to))
 
-      -- it leads to a pair
-      module _ {f : RowPair} (is : next_pair A q set W p b k ≡ Some f) (narrow : f.watch < 17) where
-        low : f.row < rows
-        low = fence.stays p.row b f.row (t.under.inside k p t.here) (pair_moves A q set W p f b k is).row
+    -- it leads to a pair
+    module _ {f : RowPair} (is : next_pair A q set W p b k ≡ Some f) (state-fits : p.watch < 256) where
+      narrow : f.watch < 17
+      narrow =
+          let m = pair_moves A q set W p f b k is in
+          let symbol : b < 256 = omega (arith, t.under.fence.known p.row b f.row m.row, t.under.fence.short) in
+          omega (arith, m.watch, t.under.below.after p.watch b state-fits symbol)
 
-        -- which is listed
-        pub to_known : {table' : List ℕ} {slots' : List RowPair} {count' : ℕ} → Known f table slots count table' slots' count' → Trying table' slots' count' k (b + 1) p
-        to_known {table'} {slots'} {count'} o =
-            let e = t.under.noted.seen f.row f.watch o.old in
-            let same : place_of e.entry ≡ place_of f = ap (λ (r : ℕ). record { row = r; watch = e.entry.watch }) e.row ∙ ap (λ (s : ℕ). record { row = f.row; watch = s }) e.watch in
-            let so = tried_there (λ n to. record { at = e.at; entry = e.entry; is = e.is; same = same ∙ some_same (sym (pair_moves A q set W p f b k is).to ∙ to); from = t.under.midway.upto e.at e.entry e.is }) in
-            subst (λ x. Trying x slots' count' k (b + 1) p) (sym o.same_table)
-            (subst (λ x. Trying table x count' k (b + 1) p) (sym o.same_slots) (subst (λ (x : ℕ). Trying table slots x k (b + 1) p) (sym o.same_count) so))
+      low : f.row < rows
+      low = t.under.fence.stays p.row b f.row (t.under.inside k p t.here) (pair_moves A q set W p f b k is).row
 
-        -- which is new
-        module _ {i : ℕ} {table' : List ℕ} {slots' : List RowPair} {count' : ℕ} (o : Added f table slots count i table' slots' count') where
-          few : f.row < 16
-          few = omega (arith, low, fence.few)
+      -- which is listed
+      pub to_known : {l' : Listed} {pile' : Stack RowPair} → Known f l pile l' pile' → Trying l' pile' k (b + 1) p
+      to_known {l'} {pile'} o =
+          let e = t.under.noted.seen f.row f.watch o.old in
+          let same : place_of e.entry ≡ place_of f = ap (λ (r : ℕ). record { row = r; watch = e.entry.watch }) e.row ∙ ap (λ (s : ℕ). record { row = f.row; watch = s }) e.watch in
+          let so = tried_there (λ n to. record { at = e.at; entry = e.entry; is = e.is; same = same ∙ same_Some _ _ (sym (pair_moves A q set W p f b k is).to ∙ to); from = t.under.midway.upto e.at e.entry e.is }) in
+          subst (λ x. Trying x pile' k (b + 1) p) (sym o.same_list) (subst (λ x. Trying l x k (b + 1) p) (sym o.same_pile) so)
 
-          listed : (r s : ℕ) → lists table' r s ≡ (lists table r s || (eqb f.row r && eqb f.watch s))
-          listed = o.listed few (omega arith)
+      -- which is new
+      module _ {i : ℕ} {l' : Listed} {pile' : Stack RowPair} (o : Added f l pile i l' pile') where
+        few : f.row < 16
+        few = omega (arith, low, t.under.fence.few)
 
-          room : length es < 272
-          room = room_left table table' es f t.under.noted few narrow o.new listed
+        listed : (r s : ℕ) → lists l' r s ≡ (lists l r s || (eqb f.row r && eqb f.watch s))
+        listed = o.listed few (omega (arith, narrow))
 
-          grows : entries slots' count' ≡ es ++ f ∷ []
-          grows = o.pushed (omega (arith, room, length-take-le count slots within, t.under.room))
+        room : length es < 272
+        room = room_left l l' es f t.under.noted few narrow o.new listed
 
-          to : go (place_of p) f.symbol ≡ Some (place_of f)
-          to = let m = pair_moves A q set W p f b k is in subst (λ (a : ℕ). go (place_of p) a ≡ Some (place_of f)) (sym m.symbol) m.to
+        grows : pile'.entries ≡ es ++ f ∷ []
+        grows = o.pushed (omega (arith, room, t.under.room))
 
-          -- and no goal
-          pub to_new : goal A q W f ≡ false → Trying table' slots' count' k (b + 1) p
-          to_new not-goal =
-              let u = t.under in
-              let m = pair_moves A q set W p f b k is in
-              let kept = nth_kept f es k p t.here in
-              let half = grown go at_goal from place_of es k b u.midway p t.here f m.parent to not-goal in
-              let known = λ (n : Place) (h : go (place_of p) b ≡ Some n). new_listed n (some_same (sym m.to ∙ h)) m.parent in
-              record {
-                under = record {
-                  midway = subst (λ l. Half l k (b + 1)) (sym grows) (tried go at_goal from place_of (es ++ f ∷ []) k b half p kept known);
-                  noted = subst (Noted table') (sym grows) (noted_more table table' es f u.noted few narrow o.new listed);
-                  inside = λ j e at. ⊎_elim (u.inside j e) (λ new. subst (λ (x : RowPair). x.row < rows) new.1 low) (nth_cases f es j e (ap (λ l. slice_get l j) (sym grows) ∙ at));
-                  room = omega (arith, o.long, u.room);
-                };
-                here = ap (λ l. slice_get l k) grows ∙ kept;
-              }
-            where
-              new_listed : (n : Place) → place_of f ≡ n → f.parent ≡ k → Listed go at_goal from place_of (es ++ f ∷ []) k n
-              new_listed n same parent = record { at = length es; entry = f; is = nth_new f es; same = same; from = omega arith }
+        to : go (place_of p) f.symbol ≡ Some (place_of f)
+        to = let m = pair_moves A q set W p f b k is in subst (λ (a : ℕ). go (place_of p) a ≡ Some (place_of f)) (sym m.symbol) m.to
 
-          -- and a goal
-          pub to_goal : goal A q W f ≡ true → Finds A q set W (entries slots' count') (Some i)
-          to_goal there =
-              let m = pair_moves A q set W p f b k is in
-              let w = new_sequence go at_goal from place_of es k b t.under.midway p t.here f m.parent to in
-              let new = new_leads go at_goal from place_of es k b t.under.midway p t.here f m.parent to in
-              let at : length es ≡ i = length-take-le count slots within ∙ sym o.place in
-              let read = subst (λ l. Traces l i w) (sym grows) (subst (λ (j : ℕ). Traces (es ++ f ∷ []) j w) at new.read) in
-              answered (entries slots' count') i w (place_of f) read new.leads_to there (λ v s. farther v s new.before new.before_read w new.longer) (omega (arith, at, ap length grows, length_push es f)) (omega (arith, at, room))
-            where
-              farther : (v : List ℕ) → Sought A q set W v → (h : List ℕ) → Traces es k h → (w : List ℕ) → length w ≡ length h + 1 → length w ≤ length v
-              farther v s h read w long =
-                  let g = goal_of_sought A q set W v s in
-                  omega (arith, length-reverse v, longer go at_goal from place_of es k b t.under.midway h read (reverse v) g.place g.to g.there)
+        -- and no goal
+        pub to_new : goal A q W f ≡ false → Trying l' pile' k (b + 1) p
+        to_new not-goal =
+            let u = t.under in
+            let m = pair_moves A q set W p f b k is in
+            let kept = nth_kept f es k p t.here in
+            let half = grown go at_goal from place_of es k b u.midway p t.here f m.parent to not-goal in
+            let known = λ (n : Place) (h : go (place_of p) b ≡ Some n). new_listed n (same_Some _ _ (sym m.to ∙ h)) m.parent in
+            record {
+              under = record {
+                fence = u.fence;
+                below = u.below;
+                midway = subst (λ l. Half l k (b + 1)) (sym grows) (tried go at_goal from place_of (es ++ f ∷ []) k b half p kept known);
+                noted = subst (Noted l') (sym grows) (noted_more l l' es f u.noted few narrow o.new listed);
+                inside = λ j e at. ⊎_elim (u.inside j e) (λ new. subst (λ (x : RowPair). x.row < rows) new.1 low) (nth_cases f es j e (ap (λ l. slice_get l j) (sym grows) ∙ at));
+                room = omega (arith, o.long, u.room);
+              };
+              here = ap (λ l. slice_get l k) grows ∙ kept;
+            }
+          where
+            new_listed : (n : Place) → place_of f ≡ n → f.parent ≡ k → Met go at_goal from place_of (es ++ f ∷ []) k n
+            new_listed n same parent = record { at = length es; entry = f; is = nth_new f es; same = same; from = omega arith }
 
-    -- before the first turn: nothing is listed, and the pair of the first row and the watcher's start comes on an empty pile
-    module _ (table : List ℕ) (slots : List RowPair) (count : ℕ) (p : RowPair) (table' : List ℕ) (slots' : List RowPair) (count' : ℕ) (none : (r s : ℕ) → lists table r s ≡ false) (empty : count ≡ 0) (room : 272 ≤ length slots) (is : p ≡ first_pair W) (narrow : p.watch < 17) where
-      alone : (i : ℕ) → Added p table slots count i table' slots' count' → entries slots' count' ≡ p ∷ []
-      alone i o = o.pushed (omega arith) ∙ ap (λ (n : ℕ). entries slots n ++ p ∷ []) empty
+        -- and a goal
+        pub to_goal : goal A q W f ≡ true → Finds A q set W pile'.entries (Some i)
+        to_goal there =
+            let m = pair_moves A q set W p f b k is in
+            let w = new_sequence go at_goal from place_of es k b t.under.midway p t.here f m.parent to in
+            let new = new_leads go at_goal from place_of es k b t.under.midway p t.here f m.parent to in
+            let at : length es ≡ i = sym o.place in
+            let read = subst (λ l. Traces l i w) (sym grows) (subst (λ (j : ℕ). Traces (es ++ f ∷ []) j w) at new.read) in
+            answered pile'.entries i w (place_of f) read new.leads_to there (λ v s. farther v s new.before new.before_read w new.longer) (omega (arith, at, ap length grows, length_push es f)) (omega (arith, at, room))
+          where
+            farther : (v : List ℕ) → Sought A q set W v → (h : List ℕ) → Traces es k h → (w : List ℕ) → length w ≡ length h + 1 → length w ≤ length v
+            farther v s h read w long =
+                let g = goal_of_sought A q set W v s in
+                omega (arith, length-reverse v, longer go at_goal from place_of es k b t.under.midway h read (reverse v) g.place g.to g.there)
 
-      at_first : place_of p ≡ from
-      at_first = ap place_of is
+  -- before the first turn: nothing is listed, and the pair of the first row and the watcher's start comes on an empty pile
+  module _ (fence : Fenced A q rows symbols) (below : StatesBelow 17 W) (l : Listed) (pile : Stack RowPair) (p : RowPair) (l' : Listed) (pile' : Stack RowPair) (none : (r s : ℕ) → lists l r s ≡ false) (empty : pile.entries ≡ []) (room : 272 ≤ length pile.free) (is : p ≡ first_pair W) where
+    starts_low : p.watch < 17
+    starts_low = omega (arith, below.start, ap {B = ℕ} (λ (x : RowPair). x.watch) is)
 
-      row : p.row ≡ 0
-      row = ap {B = ℕ} (λ (x : RowPair). x.row) is
+    alone : (i : ℕ) → Added p l pile i l' pile' → pile'.entries ≡ p ∷ []
+    alone i o = o.pushed (omega (arith, room, ap length empty)) ∙ ap (λ es. es ++ p ∷ []) empty
 
-      pub begins : (i : Option ℕ) → Enlists p table slots count i table' slots' count' → goal A q W p ≡ false → Underway table' slots' count' 0 0
-      begins (Some i) o not-goal =
-          let noted = noted_more table table' [] p (nothing_noted table none) (omega (arith, row)) narrow o.new (o.listed (omega (arith, row)) (omega arith)) in
-          record {
-            midway = subst (λ l. Half l 0 0) (sym (alone i o)) (begun go at_goal from place_of p at_first (ap {B = ℕ} (λ (x : RowPair). x.parent) is) not-goal);
-            noted = subst (Noted table') (sym (alone i o)) noted;
-            inside = λ j e at. ⊎_elim (λ old. absurd (none_some old)) (λ new. omega (arith, fence.some, row, ap {B = ℕ} (λ (x : RowPair). x.row) new.1)) (nth_cases p [] j e (ap (λ l. slice_get l j) (sym (alone i o)) ∙ at));
-            room = omega (arith, o.long);
-          }
-      begins None o not-goal = absurd (both_ways (lists table p.row p.watch) (none p.row p.watch) o.old)
+    at_first : place_of p ≡ from
+    at_first = ap place_of is
 
-      -- the empty sequence is sought
-      pub at_once : (i : Option ℕ) → Enlists p table slots count i table' slots' count' → goal A q W p ≡ true → Finds A q set W (entries slots' count') i
-      at_once (Some i) o there =
-          let bottom : i ≡ 0 = o.place ∙ empty in
-          answered (entries slots' count') i [] (place_of p) bottom (ap Some (sym at_first)) there (λ v s. omega arith) (omega (arith, bottom, ap length (alone i o))) (omega (arith, bottom))
-      at_once None o there = absurd (both_ways (lists table p.row p.watch) (none p.row p.watch) o.old)
+    row : p.row ≡ 0
+    row = ap {B = ℕ} (λ (x : RowPair). x.row) is
+
+    pub begins : (i : Option ℕ) → Enlists p l pile i l' pile' → goal A q W p ≡ false → Underway l' pile' 0 0
+    begins (Some i) o not-goal =
+        let noted = noted_more l l' [] p (nothing_noted l none) (omega (arith, row)) starts_low o.new (o.listed (omega (arith, row)) (omega (arith, starts_low))) in
+        record {
+          fence = fence;
+          below = below;
+          midway = subst (λ l. Half l 0 0) (sym (alone i o)) (begun go at_goal from place_of p at_first (ap {B = ℕ} (λ (x : RowPair). x.parent) is) not-goal);
+          noted = subst (Noted l') (sym (alone i o)) noted;
+          inside = λ j e at. ⊎_elim (λ old. absurd (none-some _ old)) (λ new. omega (arith, fence.some, row, ap {B = ℕ} (λ (x : RowPair). x.row) new.1)) (nth_cases p [] j e (ap (λ l. slice_get l j) (sym (alone i o)) ∙ at));
+          room = omega (arith, o.long);
+        }
+    begins None o not-goal = absurd (both_ways (lists l p.row p.watch) (none p.row p.watch) o.old)
+
+    -- the empty sequence is sought
+    pub at_once : (i : Option ℕ) → Enlists p l pile i l' pile' → goal A q W p ≡ true → Finds A q set W pile'.entries i
+    at_once (Some i) o there =
+        let bottom : i ≡ 0 = o.place ∙ ap length empty in
+        answered pile'.entries i [] (place_of p) bottom (ap Some (sym at_first)) there (λ v s. omega arith) (omega (arith, bottom, ap length (alone i o))) (omega (arith, bottom))
+    at_once None o there = absurd (both_ways (lists l p.row p.watch) (none p.row p.watch) o.old)
+
+-- a search for the answer to a question
+module _ {D W : Type 0} (holds : D → ℕ → Bool) (watching : W → Watching) (s : Question D W) where
+  abbrev schema_asked : Schema D
+  schema_asked = s.tested.now.measured.schema
+
+  abbrev pub Searching : Listed → Stack RowPair → ℕ → ℕ → Type 0
+  Searching = Underway (automaton_asked holds s) s.state (bit s.symbols) (watching s.watcher.now) (row_count (tables schema_asked) s.state) schema_asked.symbols
+
+  -- and the entry that is being tried
+  abbrev pub Examining : Listed → Stack RowPair → ℕ → ℕ → RowPair → Type 0
+  Examining = Trying (automaton_asked holds s) s.state (bit s.symbols) (watching s.watcher.now) (row_count (tables schema_asked) s.state) schema_asked.symbols

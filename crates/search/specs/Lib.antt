@@ -1,4 +1,5 @@
 pub mod Listing
 pub mod Pairs
+pub mod Questions
 pub mod Sequences
 pub mod Watching

@@ -1,5 +1,5 @@
 -- Pairs on the pile: the sequence of an entry, what a symbol leads to, and what a search finds. Assumes nothing.
-use Rattle.std.specs.Prelude.{◌≡◌, ℕ, ◌<◌, Bool, cond, ◌&&◌, List, [], ◌∷◌, reverse, length, Some, None, Option, nat_lt}
+use Rattle.std.specs.Prelude.{◌≡◌, ℕ, zero, suc, ◌<◌, Bool, cond, ◌&&◌, List, [], ◌∷◌, reverse, length, Some, None, Option, nat_lt}
 use Rattle.std.specs.Option.{option_map}
 use Rattle.std.specs.List.{slice_get}
 use Rattle.schema.specs.Automata.{Automaton}
@@ -20,6 +20,20 @@ with_parent_below None i = None
 -- the entry at i, where its parent lies below it
 abbrev pub found_from : List RowPair → ℕ → Option RowPair
 found_from es i = with_parent_below (slice_get es i) i
+
+-- the symbol of what is there, and those that go on from its parent
+abbrev pub down_from : Option RowPair → (ℕ → List ℕ) → List ℕ
+down_from (Some e) on = e.symbol ∷ on e.parent
+down_from None on = []
+
+-- the symbols from an entry on down along the parents, k at most
+unfoldable pub downwards : List RowPair → ℕ → ℕ → List ℕ
+downwards es zero i = []
+downwards es (suc k) i = down_from (found_from es i) (downwards es k)
+
+-- the symbols that led to an entry, the last one first; there are no more than entries below it
+abbrev pub trail : List RowPair → ℕ → List ℕ
+trail es i = downwards es i i
 
 -- the sequence of an entry
 abbrev pub Spells : List RowPair → ℕ → List ℕ → Type 0

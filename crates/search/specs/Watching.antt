@@ -1,5 +1,6 @@
 -- Watchers as machines over symbols, and the sequences that they want. Assumes nothing.
-use Rattle.std.specs.Prelude.{◌≡◌, ℕ, min, Bool, true, cond, not, ◌||◌, List, [], ◌∷◌, ◌++◌, Some, None, Option, ◌==◌, nat_lt}
+use Rattle.std.specs.Prelude.{◌≡◌, ℕ, ◌<◌, min, Bool, true, false, cond, not, ◌||◌, List, [], ◌∷◌, ◌++◌, Some, None, Option, ◌==◌, nat_lt}
+use Rattle.std.proofs.Common.{lit<, arith}
 use Rattle.schema.specs.Automata.{Automaton}
 
 -- the state before the first symbol, the state after a symbol, and whether a sequence that led to a state is wanted
@@ -7,6 +8,11 @@ pub record Watching : Type 0 where
   pub start : ℕ
   pub after : ℕ → ℕ → ℕ
   pub wants : ℕ → Bool
+
+-- the state before the first symbol and those after a symbol are below n; states and symbols are bytes
+pub record StatesBelow (n : ℕ) (W : Watching) : Type 0 where
+  pub start : W.start < n
+  pub after : (s b : ℕ) → s < 256 → b < 256 → W.after s b < n
 
 -- the state after a sequence, from a state on
 abbrev pub watched : Watching → ℕ → List ℕ → ℕ
@@ -21,9 +27,19 @@ wanted W w = W.wants (watched W W.start w)
 abbrev pub anything : Watching
 anything = record { start = 0; after = λ s b. 0; wants = λ s. true }
 
+pub anything_low : StatesBelow 17 anything
+anything_low = record { start = lit< tt; after = λ s b fits fits'. lit< tt }
+
 -- 1 once the symbol came, and 0 before
 abbrev pub holding : ℕ → Watching
 holding a = record { start = 0; after = λ s b. cond (s == 1 || b == a) 1 0; wants = λ s. (s == 1) }
+
+pub holding_low : (a : ℕ) → StatesBelow 17 (holding a)
+holding_low a = record { start = lit< tt; after = λ s b fits fits'. by (s == 1 || b == a) }
+  where
+    by : (t : Bool) → cond t 1 0 < 17
+    by true = lit< tt
+    by false = lit< tt
 
 -- the symbol stands in the sequence
 abbrev pub Holds : ℕ → List ℕ → Type 0
@@ -43,3 +59,12 @@ refusing A p = record {
   after = λ s b. cond (nat_lt s 16) (row_or_gone (A.step p s b) (A.next p b)) 16;
   wants = λ s. not (nat_lt s 16) || not (A.ends p s);
 }
+
+pub refusing_low : (A : Automaton) (p : ℕ) → StatesBelow 17 (refusing A p)
+refusing_low A p = record { start = lit< tt; after = λ s b fits fits'. by (nat_lt s 16) (A.step p s b) (A.next p b) }
+  where
+    by : (t : Bool) (row state : Option ℕ) → cond t (row_or_gone row state) 16 < 17
+    by true (Some r) (Some s) = omega arith
+    by true (Some r) None = lit< tt
+    by true None state = lit< tt
+    by false row state = lit< tt

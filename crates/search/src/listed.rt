@@ -1,5 +1,5 @@
-//! Which pairs are listed: a mask of the watcher's states for each row, and the pile that the pairs lie on.
-ghost use Rattle.std.specs.Prelude.{◌≡◌, ℕ, ◌<◌, ◌&&◌, ◌||◌, ◌==◌};
+//! Which pairs are listed: a mask of the watcher's states for each row.
+ghost use Rattle.std.specs.Prelude.{◌≡◌, ℕ, ◌<◌, false, ◌&&◌, ◌||◌, ◌==◌};
 ghost use Rattle.search.specs.Listing.{lists, Enlists};
 
 use crate::pairs::RowPair;
@@ -8,43 +8,53 @@ use schema::faults::STATE_ROWS;
 use schema::sets::{has_member, with_member};
 
 /// One mask for each row that a state can have.
-pub(crate) const MASKS: usize = STATE_ROWS as usize;
+const MASKS: usize = STATE_ROWS as usize;
 
-/// Whether the pair is listed.
-fn is_listed(listed: &[u64; MASKS], pair: RowPair) -> bool
-    ensures { result ≡ lists listed.now pair.row pair.watch }
-{
-    let row = pair.row as usize;
-    if row < MASKS {
-        has_member(listed[row], pair.watch)
-    } else {
-        false
-    }
+/// The listed pairs of a row and a watcher's state.
+#[derive(Drop)]
+pub(crate) struct Listed {
+    masks: [u64; MASKS],
 }
 
-/// Lists the pair.
-fn list(listed: &mut [u64; MASKS], pair: RowPair)
-    ensures { pair.row < 16 → pair.watch < 64 → (r s : ℕ) → lists listed.new r s ≡ (lists listed.old r s || (pair.row == r && pair.watch == s)) }
-{
-    let row = pair.row as usize;
-    if row < MASKS {
-        listed[row] = with_member(listed[row], pair.watch);
+impl Listed {
+    /// No pair is listed.
+    pub(crate) fn new() -> Listed
+        ensures { (r s : ℕ) → lists result r s ≡ false }
+    {
+        Listed { masks: [0; MASKS] }
     }
-}
 
-/// Puts a pair that is not listed yet on the pile, and says where.
-pub(crate) fn enlist(
-    listed: &mut [u64; MASKS],
-    pile: &mut Pile<RowPair>,
-    pair: RowPair,
-) -> Option<usize>
-    ensures answer { Enlists pair listed.old pile.old.slots.now pile.old.count result listed.new pile.new.slots.now pile.new.count }
-{
-    if is_listed(listed, pair) {
-        return None;
+    /// Whether the pair is listed.
+    fn has(&self, pair: RowPair) -> bool
+        ensures { result ≡ lists self.now pair.row pair.watch }
+    {
+        match self.masks.get(usize::from(pair.row)) {
+            Some(mask) => has_member(*mask, pair.watch),
+            None => false,
+        }
     }
-    let index = pile.len();
-    pile.push(pair);
-    list(listed, pair);
-    Some(index)
+
+    /// Lists the pair.
+    fn add(&mut self, pair: RowPair)
+        ensures { pair.row < 16 → pair.watch < 64 → (r s : ℕ) → lists self.new r s ≡ (lists self.old r s || (pair.row == r && pair.watch == s)) }
+    {
+        let row = usize::from(pair.row);
+        if row < MASKS {
+            // by index: tried with `get_mut`, after which nothing is known of the masks, so that `returns` stays open
+            self.masks[row] = with_member(self.masks[row], pair.watch);
+        }
+    }
+
+    /// Puts a pair that is not listed yet on the pile, and says where.
+    pub(crate) fn enlist(&mut self, pile: &mut Pile<RowPair>, pair: RowPair) -> Option<usize>
+        ensures { Enlists pair self.old pile.old result self.new pile.new }
+    {
+        if self.has(pair) {
+            return None;
+        }
+        let index = pile.len();
+        pile.push(pair);
+        self.add(pair);
+        Some(index)
+    }
 }

@@ -6,7 +6,8 @@ use schema::faults::STATE_ROWS;
 pub const ROW_PAIRS: usize = STATE_ROWS as usize * WATCHER_STATES as usize;
 
 /// A row of the state and a state of the watcher, the symbol that led to them, and the entry that it led from.
-#[derive(Clone, Copy)]
+// The parent is a place on the pile and no box, and the watcher's state a number: the caller lends the slots, and nothing is allocated.
+#[derive(Clone, Copy, Debug, PartialEq, Eq)]
 pub struct RowPair {
     pub row: u8,
     pub watch: u8,

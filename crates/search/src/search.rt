@@ -1,11 +1,8 @@
 //! The breadth-first search over pairs of a row and a watcher's state.
-ghost use Rattle.std.specs.Prelude.{◌≡◌, ◌<◌, ◌≤◌, length, IfSome};
-ghost use Rattle.codec.specs.Piles.{entries};
-ghost use Rattle.domain.specs.Kinds.{bit};
-ghost use Rattle.schema.specs.Tables.{tables, sets, automaton};
-ghost use Rattle.search.specs.Pairs.{first_pair, next_pair, goal, Finds};
+ghost use Rattle.std.specs.Prelude.{◌≡◌, ◌<◌, ◌≤◌, [], length};
+ghost use Rattle.search.specs.Questions.{first_of, next_of, goal_of, Answers};
 
-use crate::listed::{MASKS, enlist};
+use crate::listed::Listed;
 use crate::pairs::{ROW_PAIRS, RowPair};
 use crate::watcher::Watcher;
 use codec::pile::Pile;
@@ -13,97 +10,81 @@ use domain::domain::Domain;
 use schema::sets::has_member;
 use schema::tested::Tested;
 
-/// The pair of the first row and the watcher's start.
-fn first_pair<W: Watcher>(watcher: &W) -> RowPair
-    ensures is { result ≡ first_pair (W.Watcher.watching watcher.now) }
-    ensures below { result.watch < 17 }
-{
-    RowPair {
-        row: 0,
-        watch: watcher.start(),
-        symbol: 0,
-        parent: 0,
-    }
+/// A question for the sequences over a set of symbols that run at a state of a schema and that a watcher wants.
+#[derive(Drop)]
+pub struct Question<'a, 'b, D, W> {
+    pub tested: &'a Tested<'b, D>,
+    pub state: u8,
+    pub symbols: u64,
+    pub watcher: &'a W,
 }
 
-/// The pair that a symbol of the set leads to from a pair, which is the entry `parent`.
-fn next_pair<D: Domain, W: Watcher>(
-    tested: &Tested<D>,
-    state: u8,
-    symbols: u64,
-    watcher: &W,
-    pair: RowPair,
-    symbol: u8,
-    parent: u16,
-) -> Option<RowPair>
-    ensures is { result ≡ next_pair (automaton (tables tested.now.measured.schema) (sets D.Domain.holds tested.now.measured.schema)) state (bit symbols) (W.Watcher.watching watcher.now) pair symbol parent }
-    ensures below { IfSome result (λ p. p.watch < 17) }
-{
-    if !has_member(symbols, symbol) {
-        return None;
+impl<D: Domain, W: Watcher> Question<'_, '_, D, W> {
+    /// The pair of the first row and the watcher's start.
+    fn first_pair(&self) -> RowPair
+        ensures { result ≡ first_of W.Watcher.watching self.now }
+    {
+        RowPair {
+            row: 0,
+            watch: self.watcher.start(),
+            symbol: 0,
+            parent: 0,
+        }
     }
-    let Some(row) = tested.next_row(state, pair.row, symbol) else {
-        return None;
-    };
-    Some(RowPair {
-        row,
-        watch: watcher.after(pair.watch, symbol),
-        symbol,
-        parent,
-    })
-}
 
-/// Whether a sequence that leads to the pair is sought.
-fn is_goal<D: Domain, W: Watcher>(tested: &Tested<D>, state: u8, watcher: &W, pair: RowPair) -> bool
-    ensures { result ≡ goal (automaton (tables tested.now.measured.schema) (sets D.Domain.holds tested.now.measured.schema)) state (W.Watcher.watching watcher.now) pair }
-{
-    tested.may_end(state, pair.row) && watcher.wants(pair.watch)
-}
-
-/// A shortest sequence over a set of symbols that runs at the state and that the watcher wants: the entry of the pile that it ends at,
-/// or none where there is none. The pile has to be empty and to have ROW_PAIRS slots.
-pub fn search<D: Domain, W: Watcher>(
-    tested: &Tested<D>,
-    state: u8,
-    symbols: u64,
-    watcher: &W,
-    pile: &mut Pile<RowPair>,
-) -> Option<usize>
-    ensures answer { state < tested.now.measured.schema.states → pile.old.count ≡ 0 → 272 ≤ length pile.old.slots.now → Finds (automaton (tables tested.now.measured.schema) (sets D.Domain.holds tested.now.measured.schema)) state (bit symbols) (W.Watcher.watching watcher.now) (entries pile.new.slots.now pile.new.count) result }
-{
-    let first = first_pair(watcher);
-    let mut listed = [0; MASKS];
-    let bottom = enlist(&mut listed, pile, first);
-    if is_goal(tested, state, watcher, first) {
-        return bottom;
+    /// The pair that a symbol of the set leads to from a pair, which is the entry `parent`.
+    fn next_pair(&self, pair: RowPair, symbol: u8, parent: u16) -> Option<RowPair>
+        ensures { result ≡ next_of D.Domain.holds W.Watcher.watching self.now pair symbol parent }
+    {
+        if !has_member(self.symbols, symbol) {
+            return None;
+        }
+        let row = self.tested.next_row(self.state, pair.row, symbol)?;
+        Some(RowPair {
+            row,
+            watch: self.watcher.after(pair.watch, symbol),
+            symbol,
+            parent,
+        })
     }
-    let mut found = None;
-    let mut cursor = 0;
-    'search: while cursor < ROW_PAIRS {
-        let Some(pair) = pile.read(cursor) else {
-            break 'search;
-        };
-        'symbols: for symbol in 0..tested.symbols() {
-            let Some(next) = next_pair(
-                tested,
-                state,
-                symbols,
-                watcher,
-                pair,
-                symbol as u8,
-                cursor as u16,
-            ) else {
-                continue 'symbols;
-            };
-            let Some(index) = enlist(&mut listed, pile, next) else {
-                continue 'symbols;
-            };
-            if is_goal(tested, state, watcher, next) {
-                found = Some(index);
+
+    /// Whether a sequence that leads to the pair is sought.
+    fn is_goal(&self, pair: RowPair) -> bool
+        ensures { result ≡ goal_of D.Domain.holds W.Watcher.watching self.now pair }
+    {
+        self.tested.may_end(self.state, pair.row) && self.watcher.wants(pair.watch)
+    }
+
+    /// A shortest sequence that is sought: the entry of the pile that it ends at, or none where there is none. The pile has to be empty and
+    /// to have ROW_PAIRS slots.
+    pub fn search(&self, pile: &mut Pile<RowPair>) -> Option<usize>
+        ensures answer { self.now.state < self.now.tested.now.measured.schema.states → pile.old.entries ≡ [] → 272 ≤ length pile.old.free → Answers D.Domain.holds W.Watcher.watching self.now pile.new.entries result }
+    {
+        let first = self.first_pair();
+        let mut listed = Listed::new();
+        let bottom = listed.enlist(pile, first);
+        if self.is_goal(first) {
+            return bottom;
+        }
+        let mut found = None;
+        'search: for cursor in 0..ROW_PAIRS {
+            let Some(pair) = pile.read(cursor) else {
                 break 'search;
+            };
+            'symbols: for symbol in 0..self.tested.symbols() {
+                // `as` is proved to lose nothing here; `try_from` would add a case that cannot come.
+                let Some(next) = self.next_pair(pair, symbol as u8, cursor as u16) else {
+                    continue 'symbols;
+                };
+                let Some(index) = listed.enlist(pile, next) else {
+                    continue 'symbols;
+                };
+                if self.is_goal(next) {
+                    found = Some(index);
+                    break 'search;
+                }
             }
         }
-        cursor += 1;
+        found
     }
-    found
 }

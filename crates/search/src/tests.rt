@@ -1,7 +1,7 @@
 //! The search over small schemas.
 use crate::pairs::RowPair;
 use crate::reading::{length, symbol_at};
-use crate::search::search;
+use crate::search::Question;
 use crate::watcher::Watcher;
 use crate::watchers::{Anything, Holding, Refused};
 use codec::pile::Pile;
@@ -90,7 +90,13 @@ fn find<D: Domain, W: Watcher>(
     let tested = Tested::new(schema)?;
     let mut slots = [UNUSED; 8];
     let mut pile = Pile::new(&mut slots);
-    let found = search(&tested, 0, symbols, watcher, &mut pile);
+    let question = Question {
+        tested: &tested,
+        state: 0,
+        symbols,
+        watcher,
+    };
+    let found = question.search(&mut pile);
     Ok(read_off(&pile, found))
 }
 

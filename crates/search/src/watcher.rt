@@ -1,6 +1,6 @@
 //! Watchers: each reads a sequence symbol by symbol, and says whether it wants what it has read.
-ghost use Rattle.std.specs.Prelude.{◌≡◌, ◌<◌};
-ghost use Rattle.search.specs.Watching.{Watching};
+ghost use Rattle.std.specs.Prelude.{◌≡◌};
+ghost use Rattle.search.specs.Watching.{Watching, StatesBelow};
 
 use schema::faults::STATE_ROWS;
 
@@ -14,15 +14,16 @@ pub trait Watcher {
 
     /// The state before the first symbol.
     fn start(&self) -> u8
-        ensures is { result ≡ (watching self.now).start }
-        ensures below { result < 17 };
+        ensures { result ≡ (watching self.now).start };
 
     /// The state after one symbol more.
     fn after(&self, state: u8, symbol: u8) -> u8
-        ensures is { result ≡ (watching self.now).after state symbol }
-        ensures below { result < 17 };
+        ensures { result ≡ (watching self.now).after state symbol };
 
     /// Whether a sequence that leads to the state is wanted.
     fn wants(&self, state: u8) -> bool
         ensures { result ≡ (watching self.now).wants state };
+
+    // its states are below WATCHER_STATES
+    ghost low: { (w : Self) → StatesBelow 17 (watching w) };
 }

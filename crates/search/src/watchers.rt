@@ -1,8 +1,8 @@
 //! The watchers: for any sequence, for one that holds a symbol, and for one that a state of another schema refuses.
 ghost use Rattle.std.specs.Prelude.{◌≡◌, ℕ, ◌<◌, not, List, Decides};
 ghost use Rattle.schema.specs.Automata.{allowed};
-ghost use Rattle.schema.specs.Tables.{tables, sets, automaton};
-ghost use Rattle.search.specs.Watching.{wanted, anything, holding, Holds, refusing};
+ghost use Rattle.schema.specs.Tables.{automaton_of};
+ghost use Rattle.search.specs.Watching.{wanted, anything, anything_low, holding, holding_low, Holds, refusing, refusing_low};
 
 use crate::watcher::Watcher;
 use domain::domain::Domain;
@@ -10,11 +10,13 @@ use schema::faults::STATE_ROWS;
 use schema::tested::Tested;
 
 /// Wants every sequence.
-#[derive(Clone, Copy)]
+#[derive(Clone, Copy, Debug, PartialEq, Eq)]
 pub struct Anything;
 
 impl Watcher for Anything {
     ghost watching = { λ _. anything };
+
+    ghost low = { λ _. anything_low };
 
     fn start(&self) -> u8 {
         0
@@ -30,7 +32,7 @@ impl Watcher for Anything {
 }
 
 /// Wants the sequences that hold a symbol.
-#[derive(Clone, Copy)]
+#[derive(Clone, Copy, Debug, PartialEq, Eq)]
 pub struct Holding {
     symbol: u8,
 }
@@ -47,6 +49,8 @@ impl Holding {
 
 impl Watcher for Holding {
     ghost watching = { λ h. holding h.symbol };
+
+    ghost low = { λ h. holding_low h.symbol };
 
     fn start(&self) -> u8 {
         0
@@ -66,6 +70,7 @@ impl Watcher for Holding {
 }
 
 /// The state of a watcher that has no row any more.
+// A number and no Option: a state is a bit of the search's masks and a byte of the pairs that the caller lends.
 const GONE: u8 = STATE_ROWS;
 
 /// Wants the sequences that are not allowed at a state of a schema.
@@ -80,14 +85,16 @@ impl<'a, 'b, D: Domain> Refused<'a, 'b, D> {
     pub fn new(tested: &'a Tested<'b, D>, state: u8) -> Refused<'a, 'b, D>
         ensures schema { result.tested.now ≡ tested.now }
         ensures at { result.state ≡ state }
-        ensures means { state < tested.now.measured.schema.states → (w : List ℕ) → wanted (refusing (automaton (tables result.tested.now.measured.schema) (sets D.Domain.holds result.tested.now.measured.schema)) result.state) w ≡ not (allowed (automaton (tables tested.now.measured.schema) (sets D.Domain.holds tested.now.measured.schema)) state w) }
+        ensures means { state < tested.now.measured.schema.states → (w : List ℕ) → wanted (refusing (automaton_of D.Domain.holds result.tested.now.measured.schema) result.state) w ≡ not (allowed (automaton_of D.Domain.holds tested.now.measured.schema) state w) }
     {
         Refused { tested, state }
     }
 }
 
 impl<D: Domain> Watcher for Refused<'_, '_, D> {
-    ghost watching = { λ r. refusing (automaton (tables r.tested.now.measured.schema) (sets D.Domain.holds r.tested.now.measured.schema)) r.state };
+    ghost watching = { λ r. refusing (automaton_of D.Domain.holds r.tested.now.measured.schema) r.state };
+
+    ghost low = { λ r. refusing_low (automaton_of D.Domain.holds r.tested.now.measured.schema) r.state };
 
     fn start(&self) -> u8 {
         0
@@ -97,13 +104,13 @@ impl<D: Domain> Watcher for Refused<'_, '_, D> {
         if state >= GONE {
             return GONE;
         }
-        let Some(row) = self.tested.next_row(self.state, state, symbol) else {
-            return GONE;
-        };
-        let Some(_) = self.tested.next_state(self.state, symbol) else {
-            return GONE;
-        };
-        row.min(GONE)
+        match (
+            self.tested.next_row(self.state, state, symbol),
+            self.tested.next_state(self.state, symbol),
+        ) {
+            (Some(row), Some(_)) => row.min(GONE),
+            _ => GONE,
+        }
     }
 
     fn wants(&self, state: u8) -> bool {

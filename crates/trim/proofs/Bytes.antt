@@ -1,12 +1,12 @@
 -- What the trimmed tables say of a kept state under its new number. Assumes nothing.
-use Rattle.std.proofs.Common.{◌≡◌, ℕ, zero, suc, ◌+◌, ◌*◌, ◌/◌, ◌%◌, ◌<◌, Bool, true, false, cond, List, [], length, get_or, sym, refl, ap, ◌∙◌, subst, add-mul, arith}
+use Rattle.std.proofs.Common.{◌≡◌, ℕ, zero, suc, ◌+◌, ◌*◌, ◌/◌, ◌%◌, ◌<◌, ◌≤◌, Bool, true, false, cond, List, [], length, get_or, sym, refl, ap, ◌∙◌, subst, add-mul, arith}
 use native.Mathlib.Nat.{mod-add-div}
 use lib.Arith.{digits_lt}
 use Rattle.std.proofs.lemmas.Bool.{cond-true}
 use Rattle.schema.specs.Below.{sum_below}
 use Rattle.schema.specs.Tables.{Tables, transition_byte, state_byte, domain_number, row_count, first_row, row_start, end_mark, row_byte}
 use Rattle.trim.specs.Trimmed.{joined, number, new_transition, new_entry, rows_before, transition_line, state_line, row_line, row_lines, trimmed}
-use Rattle.trim.proofs.Joined.{length_joined, get_or_piece, length_singles, get_or_singles}
+use Rattle.trim.proofs.Joined.{length_joined, joined_step, get_or_piece, length_singles, get_or_singles}
 
 module _ (kept : ℕ → Bool) (line : ℕ → List ℕ) where
   -- the lines of the kept states, each a multiple of one length
@@ -40,6 +40,10 @@ module _ (T : Tables) (permitted kept : ℕ → Bool) where
   -- a state's first rows
   pub first_length : (q n : ℕ) → length (joined n (row_line T permitted kept q)) ≡ n * (T.symbols + 1)
   first_length q n = length_joined (row_line T permitted kept q) (λ _. 1) (T.symbols + 1) (λ r. omega (arith, row_length q r)) n ∙ ap (λ (k : ℕ). k * (T.symbols + 1)) (sum_ones n)
+
+  -- a row has room behind those before it
+  pub row_room : (q r : ℕ) → r < row_count T q → r * (T.symbols + 1) + (T.symbols + 1) ≤ length (row_lines T permitted kept q)
+  row_room q r low = omega (arith, joined_step (row_line T permitted kept q) (row_count T q) r low, first_length q r, row_length q r)
 
   pub rows_length : (n : ℕ) → length (joined n (λ q. cond (kept q) (row_lines T permitted kept q) [])) ≡ rows_before T permitted kept n * (T.symbols + 1)
   rows_length = lines_length kept (row_lines T permitted kept) (row_count T) (T.symbols + 1) (λ q. first_length q (row_count T q))

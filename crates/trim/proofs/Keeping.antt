@@ -1,13 +1,19 @@
 -- States gathered along live symbols are those that are kept. Assumes nothing.
-use Rattle.std.proofs.Common.{◌≡◌, ℕ, Bool, true, List, [], ◌∷◌, Some, Decides, sym, ap, ◌∙◌, subst, inl, inr, ⊎_elim}
-use Rattle.domain.specs.Kinds.{bit}
+use Rattle.std.proofs.Common.{◌≡◌, ℕ, ◌<◌, ◌≤◌, Bool, true, ◌&&◌, ◌||◌, eqb, ltb, List, [], ◌∷◌, ◌++◌, Some, Decides, sym, refl, ap, ◌∙◌, subst, inl, inr, ⊎_elim, arith}
+use Rattle.std.proofs.lemmas.Option.{same_Some}
+use Rattle.domain.specs.Kinds.{bit, in_bits}
+use Rattle.domain.specs.Sets.{Empty, First, alone}
+use Rattle.schema.specs.declared.tested.Tested.{Tested}
 use Rattle.schema.specs.Automata.{Automaton}
 use Rattle.schema.specs.Live.{LiveSymbol, LivePath}
 use Rattle.schema.specs.Permitted.{permit}
 use Rattle.schema.specs.Rows.{AfterEdge}
-use Rattle.schema.proofs.Gathering.{chosen_some, some_same}
+use Rattle.schema.specs.Tables.{tables, sets, automaton_of}
+use Rattle.schema.proofs.Gathering.{Partly, chosen_some, partly_start, partly_here, partly_more, partly_done}
+use Rattle.schema.proofs.Sizes.{sized}
+use Rattle.schema.proofs.Sound.{sound}
 use Rattle.trim.specs.Kept.{LedTo}
-use Rattle.trim.proofs.Paths.{live_leads}
+use Rattle.trim.proofs.Paths.{live_leads, path_push}
 
 -- a live symbol leads from one state to another
 abbrev pub LiveEdge : Automaton → ℕ → ℕ → ℕ → Type 0
@@ -26,9 +32,46 @@ module _ (A : Automaton) (permitted : ℕ → Bool) where
       onto : (a i : ℕ) → LiveSymbol (permit permitted A) p a → A.next p a ≡ Some i → LiveEdge (permit permitted A) p a i
       onto a i live is =
           let there = live_leads (permit permitted A) p a live in
-          (live, there.1 ∙ ap Some (some_same (sym (chosen_some (permitted a) (A.next p a) there.0 there.1).1 ∙ is)))
+          (live, there.1 ∙ ap Some (same_Some _ _ (sym (chosen_some (permitted a) (A.next p a) there.0 there.1).1 ∙ is)))
 
 -- a set that live symbols do not leave holds every state on a path from one of its own
 pub closed_path : (A : Automaton) (set : ℕ) → ((i a j : ℕ) → bit set i ≡ true → LiveEdge A i a j → bit set j ≡ true) → (w : List ℕ) (p q : ℕ) → bit set p ≡ true → LivePath A p w q → bit set q ≡ true
 closed_path A set closed [] p q here path = subst (λ (n : ℕ). bit set n ≡ true) path here
 closed_path A set closed (a ∷ w) p q here path = closed_path A set closed w path.1.0 q (closed p a path.1.0 here (path.0, path.1.1)) path.1.2
+
+-- the states that live symbols lead to from the start of a tested schema, over permitted symbols
+module _ {D : Type 0} (holds : D → ℕ → Bool) (t : Tested D) (permitted : ℕ) where
+  abbrev pub over_permitted : Automaton
+  over_permitted = permit (bit permitted) (automaton_of holds t.measured.schema)
+
+  -- live symbols lead from the start to the state
+  abbrev pub Led : ℕ → Type 0
+  Led q = (w : List ℕ) × LivePath over_permitted 0 w q
+
+  -- the states reached so far, and those of them that are done
+  abbrev pub LedSoFar : ℕ → ℕ → Type 0
+  LedSoFar = Partly (LiveEdge over_permitted) Led 0 t.measured.schema.states
+
+  few : t.measured.schema.states ≤ 64
+  few = (sized (tables t.measured.schema) t.measured.sized).states.to
+
+  led_on : (i a j : ℕ) → i < t.measured.schema.states → Led i → LiveEdge over_permitted i a j → Led j
+  led_on i a j low so e = (so.0 ++ a ∷ [], path_push over_permitted so.0 0 i a j so.1 e.0 e.1)
+
+  led_inside : (i a j : ℕ) → i < t.measured.schema.states → LiveEdge over_permitted i a j → j < t.measured.schema.states
+  led_inside i a j low e = (sound (tables t.measured.schema) (sets holds t.measured.schema) t.sound).next_in i a j low (chosen_some _ _ j e.1).1
+
+  pub led_start : (one : ℕ) → ((i : ℕ) → bit one i ≡ (bit 0 i || (ltb 0 64 && eqb 0 i))) → LedSoFar one 0
+  led_start one = partly_start (LiveEdge over_permitted) Led 0 t.measured.schema.states few ([], refl) led_on led_inside one (omega (arith, (sized (tables t.measured.schema) t.measured.sized).states.from))
+
+  pub led_here : (reached done q : ℕ) → LedSoFar reached done → First (alone (in_bits reached) (in_bits done)) q → q < t.measured.schema.states
+  led_here reached done q so least = (partly_here (LiveEdge over_permitted) Led 0 t.measured.schema.states few ([], refl) led_on led_inside reached done q so least).1
+
+  pub led_more : (reached done q done' reached' : ℕ) → LedSoFar reached done → First (alone (in_bits reached) (in_bits done)) q → ((i : ℕ) → bit done' i ≡ (bit done i || (ltb q 64 && eqb q i))) → AfterEdge (LiveEdge over_permitted) q reached reached' → LedSoFar reached' done'
+  led_more = partly_more (LiveEdge over_permitted) Led 0 t.measured.schema.states few ([], refl) led_on led_inside
+
+  -- where nothing is left to do, just the states on live paths from the start were reached
+  pub led_done : (reached done : ℕ) → LedSoFar reached done → Empty (alone (in_bits reached) (in_bits done)) → (q : ℕ) → Decides (bit reached q) (Led q)
+  led_done reached done so none q =
+      let closed = partly_done (LiveEdge over_permitted) Led 0 t.measured.schema.states few ([], refl) led_on led_inside reached done so none in
+      (so.only q, λ led. closed_path over_permitted reached closed led.0 0 q so.start led.1)

@@ -10,4 +10,5 @@ pub mod Permits
 pub mod Simulates
 pub mod Sound
 pub mod Steps
+pub mod Sums
 pub mod Written

@@ -1,38 +1,38 @@
 -- Parts written one after the other, behind what was written before them. Assumes nothing.
-use Rattle.std.proofs.Common.{◌≡◌, ℕ, ◌+◌, ◌<◌, ◌≤◌, List, [], ◌∷◌, ◌++◌, length, set, sym, refl, ap, ◌∙◌, append_assoc, add-one, arith}
-use Rattle.std.proofs.lemmas.List.{length-append}
+use Rattle.std.proofs.Common.{◌≡◌, ℕ, ◌+◌, ◌-◌, ◌<◌, ◌≤◌, List, [], ◌∷◌, ◌++◌, length, get_or, take, drop, set, sym, ap, ◌∙◌, append-nil, add-one, arith}
+use Rattle.std.proofs.Math.ListN.{drop_of_length-le}
+use Rattle.std.proofs.lemmas.List.{drop-drop}
+use Rattle.std.proofs.lemmas.List.FromFn.{fill_by_all}
+use borrow.Rule.Slice.PartMut.{put_mid}
 use Rattle.codec.specs.Numbers.{overwritten}
-use Rattle.codec.proofs.Writing.{over_join, over_none, over_set}
+use Rattle.codec.proofs.Writing.{over_join}
 use Rattle.trim.specs.Trimmed.{joined}
-use Rattle.trim.proofs.Joined.{length_singles}
+use Rattle.trim.proofs.Joined.{length_singles, get_or_singles}
 
--- the first byte
-pub byte_first : (out : List ℕ) (p a b : ℕ) → p < length out → b ≡ a → set out p b ≡ overwritten out p (a ∷ [])
-byte_first out p a b inside is =
-    let start : p + 0 ≡ p = omega arith in
-    ap (set out p) is ∙ ap (λ (l : List ℕ). set l p a) (sym (over_none out p)) ∙ ap (λ (n : ℕ). set (overwritten out p []) n a) (sym start) ∙ over_set out p [] a (omega arith)
+-- a list with a number for each index
+pub filled : (f : ℕ → ℕ) (n : ℕ) (line : List ℕ) → length line ≡ n → ((k : ℕ) → k < n → get_or line k 0 ≡ f k) → line ≡ joined n (λ a. f a ∷ [])
+filled f n line long each = fill_by_all f line n 0 long each ∙ sym (fill_by_all f (joined n (λ a. f a ∷ [])) n 0 (length_singles f n) (λ k low. get_or_singles f n k 0 low))
 
--- four bytes
-pub bytes_four : (out : List ℕ) (p a b c d : ℕ) → p + 4 ≤ length out → set (set (set (set out p a) (p + 1) b) (p + 2) c) (p + 3) d ≡ overwritten out p (a ∷ b ∷ c ∷ d ∷ [])
-bytes_four out p a b c d room =
-    ap (λ (l : List ℕ). set (set (set l (p + 1) b) (p + 2) c) (p + 3) d) (byte_first out p a a (omega arith) refl)
-    ∙ ap (λ (l : List ℕ). set (set l (p + 2) c) (p + 3) d) (over_set out p (a ∷ []) b (omega arith))
-    ∙ ap (λ (l : List ℕ). set l (p + 3) d) (over_set out p (a ∷ b ∷ []) c (omega arith))
-    ∙ over_set out p (a ∷ b ∷ c ∷ []) d (omega arith)
+-- bytes that are as long as the output
+pub over_all : (out bytes : List ℕ) → length bytes ≡ length out → overwritten out 0 bytes ≡ bytes
+over_all out bytes long =
+    let low : length out ≤ 0 + length bytes = omega arith in
+    ap (λ (l : List ℕ). bytes ++ l) (drop_of_length-le out low) ∙ append-nil bytes
 
-module _ (out : List ℕ) (p : ℕ) (front : List ℕ) where
-  -- one part more
-  longer : (part : ℕ → List ℕ) (k : ℕ) → (front ++ joined k part) ++ part k ≡ front ++ joined (k + 1) part
-  longer part k = append_assoc front (joined k part) (part k) ∙ ap (λ (n : ℕ). front ++ joined n part) (sym (add-one k))
+-- a byte, and as many behind it as there is room for
+pub after_first : (line rest : List ℕ) (b : ℕ) → length line ≡ length rest + 1 → put_mid 1 (length (set line 0 b) - 1) (set line 0 b) rest ≡ b ∷ rest
+after_first [] rest b long = absurd (omega arith)
+after_first (x ∷ line) rest b long =
+    let low : length line ≤ length (b ∷ line) - 1 = omega arith in
+    ap (λ (l : List ℕ). b ∷ (rest ++ l)) (drop_of_length-le line low) ∙ ap (λ (l : List ℕ). b ∷ l) (append-nil rest)
 
-  pub part_more : (part : ℕ → List ℕ) (k i : ℕ) (now : List ℕ) → now ≡ overwritten out p (front ++ joined k part) → i ≡ p + length (front ++ joined k part) → i ≤ length out → overwritten now i (part k) ≡ overwritten out p (front ++ joined (k + 1) part)
-  part_more part k i now so place inside =
-      ap (λ (l : List ℕ). overwritten l i (part k)) so ∙ ap (λ (n : ℕ). overwritten (overwritten out p (front ++ joined k part)) n (part k)) place
-      ∙ over_join out p (front ++ joined k part) (part k) (omega arith) ∙ ap (overwritten out p) (longer part k)
+-- what is written in a part is written at its place
+pub put_over : (out bytes : List ℕ) (p k : ℕ) → length bytes ≡ k → put_mid p k out bytes ≡ overwritten out p bytes
+put_over out bytes p k long = ap (λ (l : List ℕ). take p out ++ (bytes ++ l)) (drop-drop k p out) ∙ ap (λ (n : ℕ). take p out ++ (bytes ++ drop (p + n) out)) (sym long)
 
-  pub byte_more : (f : ℕ → ℕ) (k i b : ℕ) (now : List ℕ) → now ≡ overwritten out p (front ++ joined k (λ a. f a ∷ [])) → i ≡ p + length front + k → i < length out → b ≡ f k → set now i b ≡ overwritten out p (front ++ joined (k + 1) (λ a. f a ∷ []))
-  byte_more f k i b now so place inside is =
-      let written = front ++ joined k (λ a. f a ∷ []) in
-      let there : i ≡ p + length written = omega (arith, length-append front (joined k (λ a. f a ∷ [])), length_singles f k) in
-      ap (λ (l : List ℕ). set l i b) so ∙ ap (λ (n : ℕ). set (overwritten out p written) n b) there ∙ ap (set (overwritten out p written) (p + length written)) is
-      ∙ over_set out p written (f k) (omega arith) ∙ ap (overwritten out p) (longer (λ a. f a ∷ []) k)
+-- one part more
+pub part_more : (out : List ℕ) (part : ℕ → List ℕ) (k i : ℕ) (now : List ℕ) → now ≡ overwritten out 0 (joined k part) → i ≡ length (joined k part) → i ≤ length out → overwritten now i (part k) ≡ overwritten out 0 (joined (k + 1) part)
+part_more out part k i now so place inside =
+    let there : i ≡ 0 + length (joined k part) = omega arith in
+    ap (λ (l : List ℕ). overwritten l i (part k)) so ∙ ap (λ (n : ℕ). overwritten (overwritten out 0 (joined k part)) n (part k)) there
+    ∙ over_join out 0 (joined k part) (part k) (omega arith) ∙ ap (λ (n : ℕ). overwritten out 0 (joined n part)) (sym (add-one k))

@@ -1,5 +1,6 @@
 -- Live symbols lead to a state exactly when some node of some accepted tree is bound to it. Assumes nothing.
 use Rattle.std.proofs.Common.{◌≡◌, ℕ, Bool, true, List, [], ◌∷◌, ◌++◌, Some, sym, refl, ap, ◌∙◌, subst, inl, inr, ⊎_elim, append_assoc}
+use Rattle.std.proofs.lemmas.Option.{same_Some}
 use Rattle.std.specs.List.{AllByRecursion}
 use Rattle.std.proofs.lemmas.Bool.{and_parts}
 use Rattle.codec.specs.Trees.{Tree, node, Children, none, child, word}
@@ -8,7 +9,6 @@ use Rattle.schema.specs.Bindings.{States, at, StatesBelow, leaf, beside, root, O
 use Rattle.schema.specs.Live.{Live, LiveSequence, LiveSymbol, LivePath}
 use Rattle.schema.specs.Permitted.{permit}
 use Rattle.schema.proofs.Bound.{accepted_is_bound}
-use Rattle.schema.proofs.Gathering.{some_same}
 use Rattle.trim.specs.Kept.{Kept, Used}
 use Rattle.trim.proofs.Permits.{bound_freed, bound_permitted}
 
@@ -38,7 +38,7 @@ module _ (A : Automaton) where
       at_symbol (b ∷ u) all = at_symbol u all.1
 
   pub live_next : (q a s : ℕ) → LiveSymbol A q a → A.next q a ≡ Some s → Live A s
-  live_next q a s live is = let there = live_leads q a live in subst (λ (k : ℕ). Live A k) (some_same (sym there.1 ∙ is)) there.2
+  live_next q a s live is = let there = live_leads q a live in subst (λ (k : ℕ). Live A k) (same_Some _ _ (sym there.1 ∙ is)) there.2
 
   -- one live symbol more
   pub path_push : (w : List ℕ) (p q a s : ℕ) → LivePath A p w q → LiveSymbol A q a → A.next q a ≡ Some s → LivePath A p (w ++ a ∷ []) s

@@ -1,12 +1,12 @@
 -- The trimmed tables pass the test of the tables. Assumes nothing.
 use Rattle.std.proofs.Common.{◌≡◌, ℕ, ◌+◌, ◌*◌, ◌<◌, ◌≤◌, Bool, true, false, cond, eqb, Some, None, sym, ap, ◌∙◌, subst, ⊎_elim, arith}
+use Rattle.std.proofs.lemmas.Option.{same_Some}
 use Rattle.std.proofs.lemmas.Bool.{and_parts, cases_Bool, cond-false, cond-true, ne_eqb}
 use Rattle.schema.specs.Faults.{stray, table_fault}
 use Rattle.schema.specs.Tables.{Tables, entry, transition_byte, row_count, row_byte}
 use Rattle.schema.proofs.Bound.{passed}
 use Rattle.schema.proofs.Sizes.{Within, Sized, sized, sound_size}
 use Rattle.schema.proofs.Sound.{some_not_none}
-use Rattle.schema.proofs.Gathering.{some_same}
 use Rattle.trim.specs.Trimmed.{number, stays, new_transition, new_entry, rows_before, trimmed}
 use Rattle.trim.proofs.Bytes.{transitions_length, states_length, rows_length, transition_new, domain_new, row_count_new, first_row_new, end_mark_new, row_byte_new}
 use Rattle.trim.proofs.Faultless.{Fine, fine, no_fault, stray_below, stray_none}
@@ -19,7 +19,7 @@ entry_is b x is = by (eqb b 255) is
   where
     by : (none : Bool) → cond none None (Some b) ≡ Some x → b ≡ x
     by true h = absurd (some_not_none (sym h))
-    by false h = some_same h
+    by false h = same_Some _ _ h
 
 pub entry_below_255 : (b : ℕ) → b < 255 → entry b ≡ Some b
 entry_below_255 b low = cond-false (eqb b 255) None (Some b) (ne_eqb b 255 (λ e. omega arith))

@@ -1,39 +1,22 @@
 //! Trimming: the schema over permitted symbols, without the states that no accepted tree needs.
 #![tactic(auto)]
 
-ghost use Rattle.std.specs.Prelude.{◌≡◌, MatchResult};
+ghost use Rattle.std.specs.Prelude.{◌≡◌};
 ghost use Rattle.domain.specs.Kinds.{bit};
 ghost use Rattle.schema.specs.Tables.{tables, sets};
 ghost use Rattle.trim.specs.Law.{TrimmingLaw};
-ghost use Rattle.trim.specs.Outcome.{outputs, Keeps, NothingLeft, Outcome};
+ghost use Rattle.trim.specs.Outcome.{outputs, Outcome};
 
-use crate::kept::{START, kept_states};
-use crate::tables::{Keeping, has_room, write_tables};
+use crate::tables::Outputs;
+use crate::trimming::Trimming;
 use domain::domain::Domain;
 use refusal::fault::{Fault, Refusal};
-use schema::sets::has_member;
 use schema::tables::Schema;
 use schema::tested::Tested;
 
 mod kept;
 mod tables;
-
-/// What trimming keeps, or `nothing` where no tree over the permitted symbols is accepted.
-fn keep<D: Domain>(tested: &Tested<D>, permitted: u64) -> Result<Keeping, Refusal>
-    ensures { MatchResult result (λ k. (k.permitted ≡ permitted) × Keeps (tables tested.now.measured.schema) (sets D.Domain.holds tested.now.measured.schema) (bit permitted) (bit k.kept)) (λ e. NothingLeft (tables tested.now.measured.schema) (sets D.Domain.holds tested.now.measured.schema) (bit permitted) e) }
-{
-    let live = tested.live_over(permitted);
-    if !has_member(live, START) {
-        return Err(Refusal {
-            fault: Fault::Nothing,
-            place: 0,
-        });
-    }
-    Ok(Keeping {
-        permitted,
-        kept: kept_states(tested, live, permitted),
-    })
-}
+mod trimming;
 
 /// Writes the schema over the permitted symbols, bit i for symbol i, at the fronts of the three outputs, and gives its state count and
 /// row count; or the refusal of the tables, `nothing` or `room`, and then the outputs are as they were.
@@ -48,12 +31,14 @@ pub fn trim<D: Domain>(
     ensures law { TrimmingLaw }
 {
     let tested = Tested::new(schema)?;
-    let keeping = keep(&tested, u64::from(permitted))?;
-    if !has_room(&tested, keeping, transitions, states, rows) {
-        return Err(Refusal {
-            fault: Fault::Room,
-            place: 0,
-        });
+    let trimming = Trimming::new(&tested, u64::from(permitted))?;
+    let mut outputs = Outputs {
+        transitions,
+        states,
+        rows,
+    };
+    if !trimming.has_room(&outputs) {
+        return Err(Fault::Room.at(0));
     }
-    Ok(write_tables(&tested, keeping, transitions, states, rows))
+    Ok(trimming.write_tables(&mut outputs))
 }

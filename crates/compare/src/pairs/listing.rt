@@ -33,17 +33,14 @@ impl Pairs {
     }
 
     /// Forgets everything and notes two state counts; a count past 64 is taken for 64.
+    #[tactic(auto, using(crate::proofs::Views::determined))]
     pub fn begin(&mut self, firsts: u8, seconds: u8)
         ensures firsts { self.new.firsts ≡ min firsts 64 }
         ensures seconds { self.new.seconds ≡ min seconds 64 }
         ensures none { entries_of self.new ≡ [] }
         ensures determined { Determined }
     {
-        self.firsts = firsts.min(STATES as u8);
-        self.seconds = seconds.min(STATES as u8);
-        self.entries = [BLANK; PLACES];
-        self.length = 0;
-        self.bits = [0; STATES];
+        *self = Pairs::blank(firsts, seconds);
     }
 
     /// The state count of the first schema.
@@ -61,6 +58,7 @@ impl Pairs {
     }
 
     /// How many pairs are listed.
+    #[tactic(auto, using(crate::proofs::Views::many_of, crate::proofs::Views::few_pairs))]
     pub fn length(&self) -> usize
         ensures count { result ≡ length (entries_of self.now) }
         ensures few { FewPairs }
@@ -69,16 +67,13 @@ impl Pairs {
     }
 
     /// The pair at an index, the first listed at 0.
+    #[tactic(auto, using(crate::proofs::Views::entries_fit, crate::proofs::Views::listed_once))]
     pub fn entry(&self, index: usize) -> Option<Listed>
         ensures answer { result ≡ slice_get (entries_of self.now) index }
         ensures fit { EntriesFit }
         ensures once { ListedOnce }
     {
-        if index < self.length {
-            Some(self.entries[index])
-        } else {
-            None
-        }
+        self.entries[..self.length].get(index).copied()
     }
 
     /// Whether a pair with these two states is listed.

@@ -33,16 +33,10 @@ impl Coverage {
         ensures one { OneAnswer }
     {
         if ranges.len() > RANGES {
-            return Err(Refusal {
-                fault: Fault::Size,
-                place: 0,
-            });
+            return Err(Fault::Size.at(0));
         }
         if let Some(place) = first_broken(ranges) {
-            return Err(Refusal {
-                fault: Fault::Range,
-                place,
-            });
+            return Err(Fault::Range.at(place));
         }
         let mut table = [UNUSED; RANGES];
         let count = ranges.len();

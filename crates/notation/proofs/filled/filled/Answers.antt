@@ -1,14 +1,12 @@
--- One item more leaves the list the item so many times over. Assumes nothing.
-use Rattle.std.proofs.Common.{[], ◌∷◌, ◌++◌, replicate, is_ok, sym, ap, ◌∙◌, rules}
-use Rattle.std.proofs.ResultArms.{chosen}
+-- Each call of the closure gives the item. Assumes nothing.
+use Rattle.std.proofs.Common.{◌≡◌, length, replicate, rules, refl}
+use Rattle.std.proofs.lemmas.Fn.{chained_keeps}
 use Rattle.std.proofs.lemmas.List.{replicate_more}
 use Rattle.notation.proofs.filled.filled.Goals as goal
 
-pub loop-item-preserved : goal.loop-item-preserved
-loop-item-preserved g c =
-    let taken = ap is_ok c.in_ok-push.was in
-    let pushed = chosen _ _ _ _ c.push.ensures.items taken in
-    let longer = chosen _ _ _ _ c.push.ensures.len taken in (
-      (search rules),
-      pushed ∙ ap (λ l. l ++ c.args.item ∷ []) c.loop-item.invariant.1 ∙ replicate_more _ _ ∙ ap (λ n. replicate n c.args.item) (sym longer),
-    )
+pub returns-clause-items : goal.returns-clause-items
+returns-clause-items g c =
+    let ran = c.in_ok-resize_with.ensures.items in
+    let same = chained_keeps _ (λ xs q. (xs ≡ replicate (length xs) c.args.item) × (q.0.now ≡ c.args.item))
+    (λ xs q x v h step. let more = replicate_more (length xs) c.args.item in (search rules, search rules)) _ _ _ (refl, refl) ran.3 in
+    search rules

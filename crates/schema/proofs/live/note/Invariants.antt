@@ -1,6 +1,12 @@
 -- The number stands at the members that the loop has passed. Assumes nothing.
-use Rattle.schema.proofs.Noting.{NotedBelow}
+use Rattle.std.proofs.Common.{◌≡◌, ℕ, ◌<◌, ◌≤◌, cond, Some}
+use Rattle.std.specs.List.{slice_get}
+use Rattle.domain.specs.Kinds.{bit}
 use Rattle.schema.proofs.live.note.Given as goal
 
 abbrev pub invariant-loop-state : goal.invariant-loop-state
-invariant-loop-state l = NotedBelow l.initial.ranks l.states l.number l.state l.ranks
+invariant-loop-state l =
+    record {
+      passed : (q : ℕ) → q < l.state → slice_get l.ranks q ≡ cond (bit l.states q) (Some (Some l.number)) (slice_get l.initial.ranks q);
+      ahead : (q : ℕ) → l.state ≤ q → slice_get l.ranks q ≡ slice_get l.initial.ranks q;
+    }

@@ -1,11 +1,13 @@
--- The bit is read by a shift and a mask; past 63 there is none. Assumes nothing.
-use Rattle.std.proofs.Common.{sym, ◌∙◌}
-use Rattle.std.proofs.lemmas.Bool.{le-ltb}
-use Rattle.schema.proofs.Members.{none_past, masked}
+-- The bit, and none past 63. Assumes nothing.
+use Rattle.std.proofs.Common.{◌&&◌, sym, ap, ◌∙◌, ⊎_elim}
+use Rattle.std.proofs.lemmas.Bool.{cases_lt, lt-ltb, le-ltb}
+use Rattle.domain.specs.Kinds.{bit, in_bits}
+use Rattle.schema.proofs.Members.{none_past}
 use Rattle.schema.proofs.sets.has_member.Goals as goal
 
-pub returns-then-number-lt64 : goal.returns-then-number-lt64
-returns-then-number-lt64 c = masked c.args.set c.args.number
-
-pub returns-else-number-lt64 : goal.returns-else-number-lt64
-returns-else-number-lt64 c = le-ltb c.args.number 64 c.if-number-lt64.false ∙ sym (none_past c.args.set c.args.number c.ranges.set.fits c.if-number-lt64.false)
+pub returns : goal.returns
+returns c =
+    c.has_bit.ensures ∙ ap (in_bits c.args.set) c.from.ensures
+    ∙ ⊎_elim (λ low. ap (λ b. b && bit c.args.set c.args.number) (lt-ltb c.args.number 64 low))
+    (λ high. ap (λ b. b && bit c.args.set c.args.number) (le-ltb c.args.number 64 high) ∙ sym (none_past c.args.set c.args.number c.ranges.set.fits high))
+    (cases_lt c.args.number 64)

@@ -1,21 +1,11 @@
--- Each entry on the way down counts one symbol. Assumes nothing.
-use Rattle.std.proofs.Common.{sym, ◌∙◌, arith}
-use Rattle.codec.specs.Piles.{entries}
-use Rattle.search.proofs.Tracing.{found_some, counted_all, counted_more}
+-- As many symbols as the way down has. Assumes nothing.
+use Rattle.std.proofs.Common.{refl, ◌∙◌}
+use Rattle.std.proofs.lemmas.Iterator.Consumers.{YieldsList-from_first, count_from_yields_List}
+use Rattle.search.specs.Pairs.{trail}
+use Rattle.search.specs.declared.reading.Trail.{Trail}
+use Rattle.search.proofs.Tracing.{counted}
 use Rattle.search.proofs.reading.length.Goals as goal
 
-pub loop-pair-init : goal.loop-pair-init
-loop-pair-init c = (omega arith, λ w t. (w, t, omega arith))
-
-pub loop-pair-preserved : goal.loop-pair-preserved
-loop-pair-preserved c =
-    let es = entries c.args.pile.now.slots.now c.args.pile.now.count in
-    let is = sym c.found_from.ensures ∙ c.in-Some.is in (
-      omega (arith, c.loop-pair.invariant.0, (found_some es c.loop-pair.at c.in-Some.pair is).1),
-      counted_more es c.args.index c.loop-pair.at c.in-Some.pair is c.loop-pair.count c.loop-pair.invariant.1,
-    )
-
 pub returns : goal.returns
-returns c =
-    let es = entries c.args.pile.now.slots.now c.args.pile.now.count in
-    counted_all es c.args.index c.loop-pair.at c.loop-pair.count c.loop-pair.invariant.1 (sym c.found_from.ensures ∙ c.in_default.is)
+returns c = λ w spells.
+    count_from_yields_List _ _ c.count.ensures.ran (YieldsList-from_first (λ x. x) (λ (t : Trail). trail t.pile.now.entries t.at) _ refl) ∙ counted c.args.pile.now.entries c.args.index w spells

@@ -1,24 +1,15 @@
--- Each entry on the way down has the last symbol of what is left. Assumes nothing.
-use Rattle.std.proofs.Common.{sym, ◌∙◌, arith}
-use Rattle.codec.specs.Piles.{entries}
-use Rattle.search.proofs.Tracing.{none_there, none_below, symbol_there, sinks_more, sinks_start}
+-- Counted from the end, the symbol at the position stands on the way down. Assumes nothing.
+use Rattle.std.proofs.Common.{sym, refl, ◌∙◌}
+use Rattle.std.proofs.lemmas.Iterator.Adapters.{option_map_id}
+use Rattle.std.proofs.lemmas.Iterator.Consumers.{YieldsList-from_first, nth_from_yields_List}
+use Rattle.search.specs.Pairs.{trail}
+use Rattle.search.specs.declared.reading.Trail.{Trail}
+use Rattle.search.proofs.Tracing.{symbol_there}
 use Rattle.search.proofs.reading.symbol_at.Goals as goal
 
-pub loop-left-init : goal.loop-left-init
-loop-left-init c = sinks_start (entries c.args.pile.now.slots.now c.args.pile.now.count) c.args.index c.args.position c.length-left.result c.length-left.ensures
-
-pub returns-in_default : goal.returns-in_default
-returns-in_default c = λ w t.
-    none_below (entries c.args.pile.now.slots.now c.args.pile.now.count) c.args.index c.loop-left.at c.args.position c.loop-left.left c.loop-left.invariant w t c.loop-left-test.true (sym c.found_from.ensures ∙ c.in_default.is)
-
-pub returns-then-left-position : goal.returns-then-left-position
-returns-then-left-position c = λ w t.
-    symbol_there (entries c.args.pile.now.slots.now c.args.pile.now.count) c.args.index c.loop-left.at c.args.position c.loop-left.left c.loop-left.invariant w t c.in-Some.pair (sym c.found_from.ensures ∙ c.in-Some.is) (omega (arith, c.loop-left-test.true, c.if-left-position.true))
-
-pub loop-left-preserved : goal.loop-left-preserved
-loop-left-preserved c =
-    sinks_more (entries c.args.pile.now.slots.now c.args.pile.now.count) c.args.index c.loop-left.at c.in-Some.pair (sym c.found_from.ensures ∙ c.in-Some.is) c.args.position c.loop-left.left c.loop-left.invariant (omega (arith, c.loop-left-test.true, c.if-left-position.false))
-
 pub returns : goal.returns
-returns c = λ w t.
-    none_there (entries c.args.pile.now.slots.now c.args.pile.now.count) c.args.index c.loop-left.at c.args.position c.loop-left.left c.loop-left.invariant w t c.loop-left-test.false
+returns c = λ w spells.
+    let es = c.args.pile.now.entries in
+    let long = c.length-count.ensures w spells in
+    let at = nth_from_yields_List _ c.nth.new.self _ c.nth.ensures.ran (YieldsList-from_first (λ x. x) (λ (t : Trail). trail t.pile.now.entries t.at) _ refl) in
+    sym (option_map_id c.nth.result) ∙ at ∙ symbol_there es c.args.index w spells c.length-count.result c.args.position long c.if-position-count.false

@@ -1,12 +1,9 @@
--- A node that opens, or no level for it. Assumes nothing.
-use Rattle.std.proofs.Common.{sym, refl}
-use Rattle.codec.proofs.Walking.{too_deep, opened}
+-- A node that opens. Assumes nothing.
+use Rattle.std.proofs.Common.{sym, refl, ap, ◌∙◌}
+use Rattle.codec.proofs.Walking.{opened}
 use Rattle.codec.proofs.reader.Reader.open.Goals as goal
-
-pub returns-then-is_full : goal.returns-then-is_full
-returns-then-is_full g c = too_deep _ _ _ _ _ _ c.args.self.now.within c.args.levels.now.within c.requires (sym c.if-is_full.ensures)
 
 pub returns : goal.returns
 returns g c =
-    opened _ _ _ _ _ _ c.args.self.now.within c.args.levels.now.within _ _ _ _ _ _ _ _ c.requires (sym c.if-is_full.ensures)
-    c.in_ok-value.ensures c.in_ok-count.ensures refl c.push.ensures
+    rw (← c.self.view_is)
+    (opened _ _ _ _ _ c.self.invariant _ _ _ _ _ _ _ (ap (λ p. p.fresh) c.self.view_is ∙ c.requires) (sym c.if-is_full.ensures) c.in_ok-value.ensures c.in_ok-count.ensures refl c.push.ensures)

@@ -1,11 +1,11 @@
 -- The next pair, broken or not. Assumes nothing.
-use Rattle.std.proofs.Common.{ℕ, ◌+◌, ◌<◌, sym, refl, ap, ◌∙◌, subst, inl, inr, arith}
-use Rattle.codec.proofs.Entries.{inside_some}
+use Rattle.std.proofs.Common.{ℕ, ◌+◌, ◌<◌, sym, ap, ◌∙◌, subst, inl, inr}
+use Rattle.std.proofs.lemmas.Option.{slice_get_within}
 use Rattle.compare.specs.declared.area.Area.{Area}
 use Rattle.compare.specs.Listing.{entries_of}
 use Rattle.compare.specs.Schemas.{StatePair}
 use Rattle.compare.specs.Work.{Work, said}
-use Rattle.compare.proofs.Views.{kept_of, many_of, entries_fit}
+use Rattle.compare.proofs.Views.{entries_fit}
 use Rattle.compare.proofs.area.Area.examine.Goals as goal
 use Rattle.compare.proofs.area.Area.examine.Goals.{in-Some-broken, in_default-broken}
 
@@ -13,21 +13,12 @@ use Rattle.compare.proofs.area.Area.examine.Goals.{in-Some-broken, in_default-br
 abbrev counted : ℕ → Work → Work
 counted n w = record { number = w.number; serial = w.serial; phase = w.phase; symbols = w.symbols; firsts = w.firsts; seconds = w.seconds; pairs = w.pairs; examined = n }
 
-pub returns-in_default : goal.returns-in_default
-returns-in_default g c = λ noted mask room. inl (sym c.entry.ensures.answer ∙ c.in_default.is, refl)
-
-pub overflow_add-self : goal.overflow_add-self
-overflow_add-self g c =
-    let pairs = c.args.self.now.pairs in
-    let low = inside_some (entries_of pairs) c.args.self.now.examined c.in-Some.pair (sym c.entry.ensures.answer ∙ c.in-Some.is) in
-    record { fits = omega (arith, low, many_of pairs, (kept_of pairs).short) }
-
 pub returns : goal.returns
 returns g c = λ noted mask room.
     let area = c.args.self.now in
     let pair = c.in-Some.pair in
     let at = sym c.entry.ensures.answer ∙ c.in-Some.is in
-    let left = inside_some (entries_of area.pairs) area.examined pair at in
+    let left = slice_get_within (entries_of area.pairs) area.examined pair at in
     let fit = entries_fit area.pairs area.examined pair at in
     let inside : StatePair c.args.compared.now pair.first pair.second = (subst (λ (n : ℕ). pair.first < n) noted.firsts fit.first_inside, subst (λ (n : ℕ). pair.second < n) noted.seconds fit.second_inside) in
     inr (record {

@@ -23,8 +23,8 @@ returns g c = λ there mask room.
     let W = refusing (automaton (tables v) (sets holds v)) w.state in
     let p = c.args.p in
     let q = c.args.q in
-    let symbols = c.symbols_into-symbols.result in
-    let same = c.symbols_into-symbols.ensures in
-    let found = c.search.ensures.answer there.0 c.new-pile.ensures.empty (omega (arith, ap length c.new-pile.ensures.over)) in
+    let symbols = c.symbols_into.result in
+    let same = c.symbols_into.ensures in
+    let found = c.search.ensures.answer there.0 c.new-2.ensures.empty (omega (arith, ap length c.new-2.ensures.over)) in
     subst (λ (b : Bool). Decides b (Broken A B Content p q)) (sym c.is_some.ensures)
     (found_breaks A B s.states compared.live p q there.0 (sound (tables s) (sets holds s) t.sound).next_in mask (bit symbols) same W (c.new.ensures.means there.1) _ c.search.result found)

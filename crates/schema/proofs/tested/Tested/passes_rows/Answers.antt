@@ -1,18 +1,13 @@
 -- Each row of the state is tried. Assumes nothing.
-use Rattle.std.proofs.Common.{ℕ, ◌<◌, Bool, ◌&&◌, sym, subst}
+use Rattle.std.proofs.Common.{ℕ, Bool, ◌&&◌, rules, ap, ◌∙◌}
 use Rattle.domain.specs.Kinds.{bit}
 use Rattle.schema.specs.Automata.{passes}
-use Rattle.schema.specs.Tables.{tables, sets, automaton, row_count}
-use Rattle.schema.proofs.Searches.{none_more, some_found}
+use Rattle.schema.specs.Below.{some_below}
+use Rattle.schema.specs.Tables.{automaton_of}
+use Rattle.schema.proofs.Chains.{some_below_from_any}
 use Rattle.schema.proofs.tested.Tested.passes_rows.Goals as goal
 
-pub returns-then-passes_row : goal.returns-then-passes_row
-returns-then-passes_row g c =
-    let s = c.args.self.now.measured.schema in
-    let test : ℕ → Bool = λ i. bit c.args.reached i && passes ((automaton (tables s) (sets g.D.Domain.holds s)).step c.args.state i c.args.symbol) (bit c.args.ending) in
-    sym (some_found test (row_count (tables s) c.args.state) c.loop-row.row (subst (λ (n : ℕ). c.loop-row.row < n) c.state_byte-row-end.ensures c.loop-row-test.true) (sym c.if-passes_row.ensures))
-
-pub loop-row-preserved : goal.loop-row-preserved
-loop-row-preserved g c =
-    let s = c.args.self.now.measured.schema in
-    none_more (λ i. bit c.args.reached i && passes ((automaton (tables s) (sets g.D.Domain.holds s)).step c.args.state i c.args.symbol) (bit c.args.ending)) c.loop-row.row c.loop-row.invariant (sym c.if-passes_row.ensures)
+pub returns : goal.returns
+returns g c =
+    let test : ℕ → Bool = λ i. bit c.args.reached i && passes ((automaton_of g.D.Domain.holds c.args.self.now.measured.schema).step c.args.state i c.args.symbol) (bit c.args.ending) in
+    some_below_from_any _ _ c.any.result c.state_byte.result test c.any.ensures.ran (λ x b q k. search rules) ∙ ap (λ n. some_below n test) c.state_byte.ensures

@@ -1,0 +1,30 @@
+-- What is asked: a state of a schema, the symbols that may be used there, and a watcher. Assumes nothing.
+use Rattle.std.specs.Prelude.{ℕ, Bool, List, Option}
+use Rattle.domain.specs.Kinds.{bit}
+use Rattle.schema.specs.Automata.{Automaton}
+use Rattle.schema.specs.Tables.{automaton_of}
+use Rattle.search.specs.declared.pairs.RowPair.{RowPair}
+use Rattle.search.specs.declared.search.Question.{Question}
+use Rattle.search.specs.Pairs.{first_pair, next_pair, goal, Finds}
+use Rattle.search.specs.Watching.{Watching}
+
+-- the pair at the bottom, where `watching` says what machine a watcher is
+abbrev pub first_of : {D W : Type 0} → (W → Watching) → Question D W → RowPair
+first_of watching s = first_pair (watching s.watcher.now)
+
+-- the automaton of the schema, where `holds` says which values a domain has
+abbrev pub automaton_asked : {D W : Type 0} → (D → ℕ → Bool) → Question D W → Automaton
+automaton_asked holds s = automaton_of holds s.tested.now.measured.schema
+
+module _ {D W : Type 0} (holds : D → ℕ → Bool) (watching : W → Watching) (s : Question D W) where
+  -- the pair that a symbol of the set leads to from a pair, which is entry i
+  abbrev pub next_of : RowPair → ℕ → ℕ → Option RowPair
+  next_of = next_pair (automaton_asked holds s) s.state (bit s.symbols) (watching s.watcher.now)
+
+  -- a sequence that leads to the pair is sought
+  abbrev pub goal_of : RowPair → Bool
+  goal_of = goal (automaton_asked holds s) s.state (watching s.watcher.now)
+
+  -- what a search for an answer finds
+  abbrev pub Answers : List RowPair → Option ℕ → Type 0
+  Answers = Finds (automaton_asked holds s) s.state (bit s.symbols) (watching s.watcher.now)

@@ -1,0 +1,60 @@
+-- The trimmed tables of a schema with what is kept of it. Assumes nothing.
+use Rattle.std.specs.Prelude.{◌≡◌, ℕ, Bool, List}
+use Rattle.domain.specs.Kinds.{bit}
+use Rattle.schema.specs.declared.tested.Tested.{Tested}
+use Rattle.schema.specs.Tables.{Tables, tables, sets}
+use Rattle.trim.specs.declared.trimming.Trimming.{Trimming}
+use Rattle.trim.specs.Outcome.{Keeps}
+use Rattle.trim.specs.Trimmed.{number, stays, new_transition, new_entry, «rows_before», transition_line, «state_line», «row_line», row_lines, trimmed}
+
+module _ {D : Type 0} (t : Trimming D) where
+  -- the tables of the schema
+  abbrev pub tables_of : Tables
+  tables_of = tables t.tested.now.measured.schema
+
+  -- the permitted symbols and the kept states
+  abbrev pub permitted_of : ℕ → Bool
+  permitted_of = bit t.permitted
+
+  abbrev pub kept_of : ℕ → Bool
+  kept_of = bit t.kept
+
+  -- how many kept states come before a state, and how many rows they have
+  abbrev pub number_of : ℕ → ℕ
+  number_of = number tables_of permitted_of kept_of
+
+  abbrev pub rows_before_of : ℕ → ℕ
+  rows_before_of = rows_before tables_of permitted_of kept_of
+
+  -- whether the transition of a state under a symbol stays, and what becomes of it and of a row entry
+  abbrev pub stays_of : ℕ → ℕ → Bool
+  stays_of = stays tables_of permitted_of kept_of
+
+  abbrev pub new_transition_of : ℕ → ℕ → ℕ
+  new_transition_of = new_transition tables_of permitted_of kept_of
+
+  abbrev pub new_entry_of : ℕ → ℕ → ℕ → ℕ
+  new_entry_of = new_entry tables_of permitted_of kept_of
+
+  -- the lines of a state in the three tables, and a line of its rows
+  abbrev pub transition_line_of : ℕ → List ℕ
+  transition_line_of = transition_line tables_of permitted_of kept_of
+
+  abbrev pub state_line_of : ℕ → List ℕ
+  state_line_of = state_line tables_of permitted_of kept_of
+
+  abbrev pub row_line_of : ℕ → ℕ → List ℕ
+  row_line_of = row_line tables_of permitted_of kept_of
+
+  abbrev pub row_lines_of : ℕ → List ℕ
+  row_lines_of = row_lines tables_of permitted_of kept_of
+
+  -- it is of a tested schema and permitted symbols, and keeps what trimming keeps
+  pub record TrimmingOf (holds : D → ℕ → Bool) (tested : Tested D) (permitted : ℕ) : Type 0 where
+    pub of_schema : t.tested.now ≡ tested
+    pub of_symbols : t.permitted ≡ permitted
+    pub keeps : Keeps tables_of (sets holds t.tested.now.measured.schema) permitted_of kept_of
+
+  -- the trimmed tables
+  abbrev pub trimmed_of : Tables
+  trimmed_of = trimmed tables_of permitted_of kept_of
