@@ -21,7 +21,7 @@ type Double = Joint<Book, Book>;
 type Nested = Joint<Joint<TwoKeys, Mirror>, Coverage>;
 
 /// What is asked of a domain.
-// Not a closure that is handed on: a closure takes a domain of one type, and each question is put to seven.
+// An enum and no closure, which takes a domain of one type; a trait, as for what is asked of schemas, would be three types for three short arms.
 #[derive(Clone, Copy, Debug, PartialEq, Eq)]
 pub enum Question {
     Has,

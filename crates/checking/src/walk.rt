@@ -10,6 +10,7 @@ ghost use Rattle.checking.specs.Steps.{stays, may_end, StepsOn};
 
 use crate::cursor::Cursor;
 use codec::item::{Item, Level};
+use codec::pile::Pile;
 use codec::reader::Reader;
 use domain::domain::Domain;
 use refusal::fault::{Fault, Refusal};
@@ -70,7 +71,7 @@ pub(crate) fn walk<D: Domain>(
 ) -> Result<bool, Refusal>
     ensures { result ≡ verdict (automaton_of D.Domain.holds schema.now.measured.schema) (whole (length tree.now) schema.now.measured.schema.symbols (read_tree (length tree.now) schema.now.measured.schema.symbols (length levels.old) tree.now)) }
 {
-    let mut reader = Reader::new(tree, levels);
+    let mut reader = Reader::new(tree, Pile::new(levels));
     let mut answer = START;
     // A loop and no iterator: the place and the level on top are asked of the reader before each item, and an iterator would hold it.
     loop {

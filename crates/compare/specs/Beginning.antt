@@ -7,7 +7,7 @@ use Rattle.schema.specs.Live.{Live}
 use Rattle.schema.specs.Tables.{Tables, automaton}
 use Rattle.compare.specs.declared.area.Area.{Area}
 use Rattle.compare.specs.declared.claim.Comparing.{Comparing}
-use Rattle.compare.specs.declared.claim.Holding.{Holding}
+use Rattle.compare.specs.declared.claim.Lease.{Lease}
 use Rattle.compare.specs.declared.event.Event.{Event}
 use Rattle.compare.specs.Refusals.{other_symbols, phase_refuses, worn_out}
 use Rattle.compare.specs.Work.{Work, said, begun}
@@ -21,7 +21,7 @@ abbrev pub begin_refusal : Work → Tables → Tables → Event → Option Refus
 begin_refusal w T U e = first_of (either_fault T U ∷ kept_from w T U e ∷ [])
 
 -- a comparison has begun, and the claim carries the area's number and the new serial
-pub record Begins (T U : Tables) (domains : List (ℕ → Bool)) (w : Work) (claim : Holding Comparing) (w' : Work) : Type 0 where
+pub record Begins (T U : Tables) (domains : List (ℕ → Bool)) (w : Work) (claim : Lease Comparing) (w' : Work) : Type 0 where
   pub live : Bool
   pub decides : Decides live (Live (automaton T domains) 0)
   pub after : w' ≡ begun w T U live
@@ -29,6 +29,6 @@ pub record Begins (T U : Tables) (domains : List (ℕ → Bool)) (w : Work) (cla
   pub serial : claim.numbers.serial ≡ w.serial + 1
 
 -- the one outcome: it begins, or the first refusal leaves the whole area as found
-abbrev pub Beginning : Event → Tables → Tables → List (ℕ → Bool) → Area → Result (Holding Comparing) Refusal → Area → Type 0
+abbrev pub Beginning : Event → Tables → Tables → List (ℕ → Bool) → Area → Result (Lease Comparing) Refusal → Area → Type 0
 Beginning e T U domains a (Ok claim) a' = (begin_refusal (said a) T U e ≡ None) × Begins T U domains (said a) claim (said a')
 Beginning e T U domains a (Err r) a' = (begin_refusal (said a) T U e ≡ Some r) × (a' ≡ a)

@@ -4,7 +4,7 @@ use Rattle.refusal.specs.declared.fault.Refusal.{Refusal}
 use Rattle.refusal.specs.Order.{first_of}
 use Rattle.compare.specs.declared.area.Area.{Area}
 use Rattle.compare.specs.declared.claim.Comparing.{Comparing}
-use Rattle.compare.specs.declared.claim.Holding.{Holding}
+use Rattle.compare.specs.declared.claim.Lease.{Lease}
 use Rattle.compare.specs.declared.claim.Numbers.{Numbers}
 use Rattle.compare.specs.declared.conclude.Concluded.{Concluded}
 use Rattle.compare.specs.declared.conclude.Concluded.TheVariants.{Included, Apart}
@@ -26,7 +26,7 @@ Concludes w (Included n) w' = (w.phase ≡ phase.Ready verdict.Included) × (n �
 Concludes w (Apart k n claim) w' = (w.phase ≡ phase.Ready (verdict.Apart k)) × (n ≡ w.examined) × (claim.numbers.area ≡ w.number) × (claim.numbers.serial ≡ w.serial) × (w' ≡ in_phase w (phase.Apart k))
 
 -- the one outcome: a conclusion, or the first refusal, which hands back the claim and leaves the whole area as found
-abbrev pub Conclusion : Area → Holding Comparing → Result Concluded (Refusal × Holding Comparing) → Area → Type 0
+abbrev pub Conclusion : Area → Lease Comparing → Result Concluded (Refusal × Lease Comparing) → Area → Type 0
 Conclusion a claim (Ok c) a' = (claim_refusal (said a) claim.numbers Conclude ≡ None) × Concludes (said a) c (said a')
 Conclusion a claim (Err e) a' = (claim_refusal (said a) claim.numbers Conclude ≡ Some e.0) × (e.1 ≡ claim) × (a' ≡ a)
 
@@ -35,6 +35,6 @@ abbrev pub GivesUp : Area → ℕ → ℕ → Area → Type 0
 GivesUp a serial n a' = cond (held_by (said a) serial) ((n ≡ 1) × (said a' ≡ free (said a).number (said a).serial)) ((n ≡ 0) × (a' ≡ a))
 
 -- the one outcome: 1 or 0, or `foreign`, which hands back the claim and leaves the whole area as found
-abbrev pub GivingUp : {S : Type 0} → Area → Holding S → Result ℕ (Refusal × Holding S) → Area → Type 0
+abbrev pub GivingUp : {S : Type 0} → Area → Lease S → Result ℕ (Refusal × Lease S) → Area → Type 0
 GivingUp a claim (Ok n) a' = (of_another (said a) claim.numbers.area ≡ None) × GivesUp a claim.numbers.serial n a'
 GivingUp a claim (Err e) a' = (of_another (said a) claim.numbers.area ≡ Some e.0) × (e.1 ≡ claim) × (a' ≡ a)

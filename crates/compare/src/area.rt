@@ -28,6 +28,7 @@ pub struct Area {
 }
 
 /// The pair (0, 0), which no pair led to.
+// Its parent and symbol are 0 and no option: what led to a pair is asked only where its parent stands before it.
 const START: Listed = Listed {
     first: 0,
     second: 0,

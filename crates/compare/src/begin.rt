@@ -40,6 +40,7 @@ pub fn take<D: Domain>(
     begin(area, first, second, Event::Take)
 }
 
+// Two calls that differ in the event: the product has both.
 /// Takes an area in whatever phase it is. A claim that held it is ousted. Refusals as for `take`, but for `busy`.
 pub fn oust<D: Domain>(
     area: &mut Area,

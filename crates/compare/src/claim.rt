@@ -17,19 +17,20 @@ pub struct Comparing;
 pub struct Apart;
 
 /// A claim, and in its type what its comparison is at. It can't be let go before it is spent.
-pub struct Holding<S> {
+pub struct Lease<S> {
     numbers: Numbers,
+    // a mark, since the rule is that the check refuses to let a claim go before it is spent
     spent: bool,
     at: PhantomData<S>,
 }
 
 /// What take and oust give.
-pub type Claim = Holding<Comparing>;
+pub type Claim = Lease<Comparing>;
 
 /// What a conclusion apart gives for the claim, with the same numbers.
-pub type ApartClaim = Holding<Apart>;
+pub type ApartClaim = Lease<Apart>;
 
-impl<S> Drop for Holding<S> {
+impl<S> Drop for Lease<S> {
     fn drop(self)
         requires { self.spent ≡ true }
     {
@@ -41,7 +42,7 @@ impl<S> Drop for Holding<S> {
     }
 }
 
-impl<S> Holding<S> {
+impl<S> Lease<S> {
     /// The claim's two numbers.
     pub fn numbers(&self) -> Numbers
         ensures { result ≡ self.now.numbers }
@@ -70,12 +71,12 @@ impl<S> Holding<S> {
     }
 }
 
-impl Holding<Comparing> {
+impl Lease<Comparing> {
     /// A claim with these numbers.
     pub(crate) fn new(numbers: Numbers) -> Claim
         ensures { result.numbers ≡ numbers }
     {
-        Holding {
+        Lease {
             numbers,
             spent: false,
             at: PhantomData,
@@ -86,7 +87,7 @@ impl Holding<Comparing> {
     pub(crate) fn part(self) -> ApartClaim
         ensures { result.numbers ≡ self.numbers }
     {
-        let apart = Holding {
+        let apart = Lease {
             numbers: self.numbers,
             spent: false,
             at: PhantomData,

@@ -2,7 +2,7 @@
 ghost use Rattle.compare.specs.Concluding.{Conclusion, GivingUp};
 
 use crate::area::Area;
-use crate::claim::{ApartClaim, Claim, Holding};
+use crate::claim::{ApartClaim, Claim, Lease};
 use crate::event::{Decision, Event, decide};
 use crate::phase::{Kind, Phase};
 use refusal::fault::{Fault, Refusal};
@@ -18,6 +18,7 @@ pub enum Concluded {
 pub fn conclude(area: &mut Area, claim: Claim) -> Result<Concluded, (Refusal, Claim)>
     ensures { Conclusion area.old claim result area.new }
 {
+    // no `?`: the claim goes back with the refusal
     if let Err(refusal) = area.permits_claim(claim.numbers(), Event::Conclude) {
         return Err((refusal, claim));
     }
@@ -37,7 +38,7 @@ pub fn conclude(area: &mut Area, claim: Claim) -> Result<Concluded, (Refusal, Cl
 
 /// Gives a claim of either kind up. The holder's frees the area and answers 1, an ousted one's only answers 0. Or `foreign`, with the claim.
 // The answer stays a number: the product's rules fix 1 and 0.
-pub fn give_up<S>(area: &mut Area, claim: Holding<S>) -> Result<u32, (Refusal, Holding<S>)>
+pub fn give_up<S>(area: &mut Area, claim: Lease<S>) -> Result<u32, (Refusal, Lease<S>)>
     ensures { GivingUp area.old claim result area.new }
 {
     let numbers = claim.numbers();

@@ -26,7 +26,7 @@ use search::pairs::{ROW_PAIRS, RowPair};
 pub const MOST_STEPS: u32 = 4096;
 
 /// A listed pair, its place in the list, and the symbols live at its first state.
-#[derive(Clone, Copy)]
+#[derive(Clone, Copy, Debug, PartialEq, Eq)]
 struct Leading {
     pair: Listed,
     place: u16,

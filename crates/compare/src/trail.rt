@@ -11,6 +11,7 @@ use crate::pairs::{Listed, Pairs};
 use refusal::fault::{Fault, Refusal};
 
 /// The pair at an index, where the pair that led to it stands before it.
+// As `found_from` of the search, over pairs of another type: two calls of the library's each.
 fn led_to(pairs: &Pairs, index: usize) -> Option<Listed>
     ensures { result ≡ led_to (entries_of pairs.now) index }
 {
@@ -67,6 +68,7 @@ pub fn trail(
     ensures one { OneTrail }
     ensures every { EveryTrail }
 {
+    // no `?`: the claim goes back with the refusal
     if let Err(refusal) = area.permits_claim(claim.numbers(), Event::Write) {
         return Err((refusal, claim));
     }

@@ -69,6 +69,7 @@ impl Coverage {
     }
 
     /// The smallest value in this coverage alone at which one of its ranges begins.
+    // One loop for this one, the next and `least` would take the candidate as a closure, and its contract what each closure gives of each range.
     fn begins_alone(&self, other: &Coverage) -> Option<u32>
         ensures { Smallest (both (alone (has_letter self.now) (has_letter other.now)) (some begins (ranges_of self.now))) result }
     {
@@ -97,6 +98,7 @@ impl Domain for Coverage {
     ghost holds = { has_letter };
 
     fn has(&self, value: u32) -> bool {
+        // a loop and no `any`: the form is a rule of the project
         for range in self.used() {
             if range.has(value) {
                 return true;

@@ -22,6 +22,7 @@ pub fn has_bit(bits: u64, index: u32) -> bool
 fn lowest(bits: u64) -> Option<u32>
     ensures { Smallest (in_bits bits) result }
 {
+    // a branch and no `then_some`: each arm is proved by itself, the one expression by the same two cases in a longer proof
     if bits == 0 {
         None
     } else {

@@ -28,6 +28,7 @@ pub struct Trimmed {
 
 impl fmt::Display for Trimmed {
     fn fmt<W: fmt::Write>(&self, f: &mut fmt::Formatter<W>) -> fmt::Result {
+        // the cases print the three outputs too, set apart in another way that is as fixed as this one
         let Counts { states, rows } = self.after;
         write!(f, "states {} to {states}, ", self.before.states)?;
         write!(f, "rows {} to {rows}: ", self.before.rows)?;

@@ -9,7 +9,8 @@ use refusal::fault::{Fault, Refusal};
 /// The most rows that a state has.
 pub const STATE_ROWS: u8 = 16;
 
-/// The entry that says none: a number, since the format of the tables fixes it. Inside, `Tested` answers options.
+/// The entry that says none.
+// A number, since the format of the tables fixes it; `Tested` answers options.
 pub const NONE: u8 = 255;
 
 /// Whether an entry is neither 255 nor below the limit.

@@ -44,8 +44,8 @@ impl<D: Domain> Tested<'_, D> {
         self.domain(state).and_then(|domain| domain.least())
     }
 
-    // `live` and `permitted` stay two sets: one grows from round to round while the other is the caller's, and a pair would be taken apart in each function.
     /// Whether a state has a value and a sequence of permitted symbols into states of the set.
+    // Two sets, here and in the next: one grows from round to round, the other is the caller's.
     fn is_found(&self, state: u8, live: u64, permitted: u64) -> bool
         ensures { state < self.now.measured.schema.states → Decides result (Found (automaton_over permitted D.Domain.holds self.now.measured.schema) (bit live) state) }
     {

@@ -5,7 +5,7 @@ use Rattle.std.proofs.lemmas.List.{get_or-reverse, length-reverse}
 use Rattle.std.proofs.lemmas.Option.{none-some, same_Some, slice_get-get_or}
 use Rattle.std.proofs.lemmas.Bool.{cond-true, lt-ltb, ltb-true}
 use Rattle.search.specs.declared.pairs.RowPair.{RowPair}
-use Rattle.search.specs.Pairs.{Traces, Spells, down_from, downwards, trail, found_from, with_parent_below}
+use Rattle.search.specs.Pairs.{Traces, Spells, down_from, downwards, descent, found_from, with_parent_below}
 
 module _ (es : List RowPair) where
   -- an entry that was found from one below it
@@ -43,30 +43,30 @@ module _ (es : List RowPair) where
           let below = found_below i e is in
           ap (λ l. e.symbol ∷ l) (rest e.parent (omega arith) (omega arith))
 
-  pub trail_ends : (i : ℕ) → found_from es i ≡ None → trail es i ≡ []
+  pub trail_ends : (i : ℕ) → found_from es i ≡ None → descent es i ≡ []
   unfolding downwards
   trail_ends zero is = refl
   trail_ends (suc i) is = ap (λ o. down_from o (downwards es i)) is
 
-  pub trail_goes_on : (i : ℕ) (e : RowPair) → found_from es i ≡ Some e → trail es i ≡ e.symbol ∷ trail es e.parent
+  pub trail_goes_on : (i : ℕ) (e : RowPair) → found_from es i ≡ Some e → descent es i ≡ e.symbol ∷ descent es e.parent
   unfolding downwards
   trail_goes_on zero e is = absurd (omega (arith, found_below 0 e is))
   trail_goes_on (suc i) e is =
       let below = found_below (suc i) e is in
       ap (λ o. down_from o (downwards es i)) is ∙ ap (λ l. e.symbol ∷ l) (enough i e.parent e.parent (omega arith) (omega arith))
 
-  traced : (w : List ℕ) (i : ℕ) → Traces es i w → trail es i ≡ w
+  traced : (w : List ℕ) (i : ℕ) → Traces es i w → descent es i ≡ w
   traced [] i t = at_bottom i i t
   traced (a ∷ w) i t =
       let is : found_from es i ≡ Some t.0 = ap (λ o. with_parent_below o i) t.1 ∙ cond-true (ltb t.0.parent i) (Some t.0) None (lt-ltb t.0.parent i t.3) in
       trail_goes_on i t.0 is ∙ ap (λ l. t.0.symbol ∷ l) (traced w t.0.parent t.4) ∙ ap (λ (s : ℕ). s ∷ w) t.2
 
   module _ (i : ℕ) (w : List ℕ) (t : Spells es i w) where
-    pub counted : length (trail es i) ≡ length w
+    pub counted : length (descent es i) ≡ length w
     counted = ap length (traced (reverse w) i t) ∙ length-reverse w
 
     -- counted from the end, the symbols stand on the way down
-    pub symbol_there : (count position : ℕ) → count ≡ length w → position < count → slice_get (trail es i) (count - 1 - position) ≡ slice_get w position
+    pub symbol_there : (count position : ℕ) → count ≡ length w → position < count → slice_get (descent es i) (count - 1 - position) ≡ slice_get w position
     symbol_there count position long low =
         let back = count - 1 - position in
         let on : length w - 1 - back ≡ position = omega arith in

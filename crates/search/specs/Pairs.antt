@@ -32,8 +32,8 @@ downwards es zero i = []
 downwards es (suc k) i = down_from (found_from es i) (downwards es k)
 
 -- the symbols that led to an entry, the last one first; there are no more than entries below it
-abbrev pub trail : List RowPair → ℕ → List ℕ
-trail es i = downwards es i i
+abbrev pub descent : List RowPair → ℕ → List ℕ
+descent es i = downwards es i i
 
 -- the sequence of an entry
 abbrev pub Spells : List RowPair → ℕ → List ℕ → Type 0

@@ -28,10 +28,9 @@ impl Listed {
     fn has(&self, pair: RowPair) -> bool
         ensures { result ≡ lists self.now pair.row pair.watch }
     {
-        match self.masks.get(usize::from(pair.row)) {
-            Some(mask) => has_member(*mask, pair.watch),
-            None => false,
-        }
+        self.masks
+            .get(usize::from(pair.row))
+            .is_some_and(|mask| has_member(*mask, pair.watch))
     }
 
     /// Lists the pair.

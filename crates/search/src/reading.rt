@@ -2,7 +2,7 @@
 ghost use Rattle.std.specs.Prelude.{◌≡◌, ℕ, List, length as size};
 ghost use Rattle.std.specs.Iterator.{YieldsFirst, at_most};
 ghost use Rattle.std.specs.List.{slice_get};
-ghost use Rattle.search.specs.Pairs.{Spells, trail, «found_from»};
+ghost use Rattle.search.specs.Pairs.{Spells, descent, «found_from»};
 
 use crate::pairs::RowPair;
 use codec::pile::Pile;
@@ -17,15 +17,15 @@ fn found_from(pile: &Pile<RowPair>, index: usize) -> Option<RowPair>
 
 /// The way from an entry down along the parents: the symbols that led to it, the last one first.
 #[derive(Drop)]
-struct Trail<'a, 'b> {
+struct Descent<'a, 'b> {
     pile: &'a Pile<'b, RowPair>,
     at: usize,
 }
 
-impl Iterator for Trail<'_, '_> {
+impl Iterator for Descent<'_, '_> {
     type Item = u8;
 
-    ghost next_gives = { YieldsFirst (λ t. trail t.pile.now.entries t.at) };
+    ghost next_gives = { YieldsFirst (λ t. descent t.pile.now.entries t.at) };
 
     ghost remaining = { λ t. at_most t.at };
 
@@ -40,7 +40,7 @@ impl Iterator for Trail<'_, '_> {
 pub fn length(pile: &Pile<RowPair>, index: usize) -> usize
     ensures { (w : List ℕ) → Spells pile.now.entries index w → result ≡ size w }
 {
-    Trail { pile, at: index }.count()
+    Descent { pile, at: index }.count()
 }
 
 /// The symbol at a position of the sequence of an entry, the first one at 0, or none past its end.
@@ -51,5 +51,5 @@ pub fn symbol_at(pile: &Pile<RowPair>, index: usize, position: usize) -> Option<
     if position >= count {
         return None;
     }
-    Trail { pile, at: index }.nth(count - 1 - position)
+    Descent { pile, at: index }.nth(count - 1 - position)
 }

@@ -71,14 +71,12 @@ struct Sequence {
 
 /// The sequence of the entry that a search found.
 fn read_off(pile: &Pile<RowPair>, found: Option<usize>) -> Option<Sequence> {
-    match found {
-        Some(index) => Some(Sequence {
-            length: length(pile, index),
-            first: symbol_at(pile, index, 0),
-            second: symbol_at(pile, index, 1),
-        }),
-        None => None,
-    }
+    let index = found?;
+    Some(Sequence {
+        length: length(pile, index),
+        first: symbol_at(pile, index, 0),
+        second: symbol_at(pile, index, 1),
+    })
 }
 
 /// What a search at the first state finds.

@@ -16,6 +16,7 @@ use schema::tested::Tested;
 pub(crate) const START: u8 = 0;
 
 /// The state that a symbol leads to, where it is in the set.
+// The rows' counterparts in schema ask `next_row` of a state and a row: what the two share is `gather_onto`.
 fn state_after<D: Domain>(tested: &Tested<D>, state: u8, symbols: u64, symbol: u8) -> Option<u8>
     ensures { result ≡ (if bit symbols symbol then (automaton_of D.Domain.holds tested.now.measured.schema).next state symbol else None) }
 {
@@ -36,8 +37,7 @@ fn states_after<D: Domain>(tested: &Tested<D>, state: u8, symbols: u64, before: 
 }
 
 /// The states that live symbols among the permitted ones lead to from the start, which is live.
-// A work list like that of the rows in schema. One for both would take what follows as a closure, whose law (it grows, along edges) would have to
-// stand in the contract for any edges: longer than these lines, and a contract can't speak of any relation.
+// A work list like that of the rows in schema: one for both would take what follows as a closure, here of two steps, and say no more.
 pub(crate) fn kept_states<D: Domain>(tested: &Tested<D>, live: u64, permitted: u64) -> u64
     ensures { LiveMask (permit (bit permitted) (automaton_of D.Domain.holds tested.now.measured.schema)) tested.now.measured.schema.states live → bit live 0 ≡ true → (q : ℕ) → Decides (bit result q) (Kept (automaton_of D.Domain.holds tested.now.measured.schema) (bit permitted) q) }
 {

@@ -36,7 +36,7 @@ loop-item-preserved g c =
 lent : (g : given.Over) (c : After-new-reader g) (r : Result Bool Refusal) → (let s = c.args.schema.now.measured.schema in the_verdict (automaton_of g.D.Domain.holds s) s.symbols c.args.tree.now (slots c.new-reader.result.levels) ≡ r) → (let s = c.args.schema.now.measured.schema in r ≡ the_verdict (automaton_of g.D.Domain.holds s) s.symbols c.args.tree.now (length c.args.levels.now))
 lent g c r is =
     let s = c.args.schema.now.measured.schema in
-    let room : slots c.new-reader.result.levels ≡ length c.args.levels.now = omega (arith, ap (λ p. slots p.levels) c.new-reader.ensures) in
+    let room : slots c.new-reader.result.levels ≡ length c.args.levels.now = omega (arith, ap (λ p. slots p.levels) c.new-reader.ensures, ap length c.new.ensures.empty, ap length c.new.ensures.over) in
     sym is ∙ ap (λ (n : ℕ). the_verdict (automaton_of g.D.Domain.holds s) s.symbols c.args.tree.now n) room
 
 pub returns-in_err-item : goal.returns-in_err-item

@@ -1,7 +1,7 @@
 -- The way down ends, or goes on at the parent. Assumes nothing.
 use Rattle.std.proofs.Common.{sym, ◌∙◌}
 use Rattle.search.proofs.Tracing.{trail_ends, trail_goes_on}
-use Rattle.search.proofs.reading.TrailIterator.next.Goals as goal
+use Rattle.search.proofs.reading.DescentIterator.next.Goals as goal
 
 pub returns-in_err-pair-clause-steps : goal.returns-in_err-pair-clause-steps
 returns-in_err-pair-clause-steps c =
