@@ -5,6 +5,7 @@ ghost use Rattle.compare.specs.Beginning.{«kept_from»};
 ghost use Rattle.compare.specs.Concluding.{claim_refusal};
 ghost use Rattle.compare.specs.Refusals.{Refuses, phase_refuses};
 ghost use Rattle.compare.specs.Schemas.{first_tables, second_tables};
+ghost use Rattle.schema.specs.Tables.{tables};
 ghost use Rattle.compare.specs.Work.{said, free, begun};
 
 use crate::claim::{Claim, Numbers};
@@ -14,6 +15,7 @@ use crate::pairs::{Listed, Pairs};
 use crate::phase::{Phase, Verdict};
 use refusal::fault::{Fault, Refusal};
 use schema::sets::has_member;
+use schema::tested::Tested;
 
 /// A work area. What is said of it says all: nothing stays in it of an earlier comparison.
 // No model whose value is what is said: a refusal leaves the whole area as found, which contracts say of the area itself, so both would be written.
@@ -75,12 +77,13 @@ impl Area {
     /// Refuses what keeps two schemas from being compared here: `symbols`, `busy` or `worn`.
     pub(crate) fn permits_start<D>(
         &self,
-        compared: &Compared<D>,
+        first: &Tested<D>,
+        second: &Tested<D>,
         event: Event,
     ) -> Result<(), Refusal>
-        ensures { Refuses (kept_from (said self.now) (first_tables compared.now) (second_tables compared.now) event) result }
+        ensures { Refuses (kept_from (said self.now) (tables first.now.measured.schema) (tables second.now.measured.schema) event) result }
     {
-        if !compared.has_same_symbols() {
+        if first.symbols() != second.symbols() {
             return Err(self.refusal(Fault::Symbols));
         }
         self.permits(event)?;

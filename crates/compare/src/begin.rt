@@ -22,9 +22,8 @@ fn begin<D: Domain>(
     ensures { Beginning event (tables first.now) (tables second.now) (sets D.Domain.holds first.now) area.old result area.new }
 {
     let (first, second) = Tested::both(first, second)?;
-    let compared = Compared::of(&first, &second);
-    area.permits_start(&compared, event)?;
-    area.start(&compared);
+    area.permits_start(&first, &second, event)?;
+    area.start(&Compared::of(&first, &second));
     Ok(area.claim())
 }
 

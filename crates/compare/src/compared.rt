@@ -1,6 +1,6 @@
 //! Two schemas that are compared, with the live states of the first.
-ghost use Rattle.std.specs.Prelude.{◌≡◌, ◌==◌};
-ghost use Rattle.compare.specs.Schemas.{MarksLive, first_tables, second_tables};
+ghost use Rattle.std.specs.Prelude.{◌≡◌};
+ghost use Rattle.compare.specs.Schemas.{MarksLive};
 
 use domain::domain::Domain;
 use schema::tested::Tested;
@@ -26,14 +26,5 @@ impl<'a, 'b, 'c, 'd, D: Domain> Compared<'a, 'b, 'c, 'd, D> {
             second,
             live: first.live_states(),
         }
-    }
-}
-
-impl<D> Compared<'_, '_, '_, '_, D> {
-    /// Whether the two schemas have as many symbols.
-    pub(crate) fn has_same_symbols(&self) -> bool
-        ensures { result ≡ ((first_tables self.now).symbols == (second_tables self.now).symbols) }
-    {
-        self.first.symbols() == self.second.symbols()
     }
 }

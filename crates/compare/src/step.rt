@@ -4,7 +4,7 @@ ghost use Rattle.schema.specs.Tables.{tables, sets};
 ghost use Rattle.domain.specs.Kinds.{bit};
 ghost use Rattle.compare.specs.Listing.{entries_of};
 ghost use Rattle.compare.specs.Refusals.{Refuses};
-ghost use Rattle.compare.specs.Schemas.{first_automaton, second_automaton, first_tables, second_tables, StatePair, MarksLive, Noted};
+ghost use Rattle.compare.specs.Schemas.{first_automaton, second_automaton, StatePair, MarksLive, Noted};
 ghost use Rattle.compare.specs.Stepping.{next_pair, with_nexts, «Goes_on», Turn, Stepped, Stepping, step_kept_from, is_running};
 ghost use Rattle.compare.specs.Work.{said};
 
@@ -124,18 +124,19 @@ impl Area {
     /// Refuses what keeps two schemas from a step: `symbols`, `foreign`, `ousted`, `schemas`, `steps` or `scratch`.
     fn permits_step<D>(
         &self,
-        compared: &Compared<D>,
+        first: &Tested<D>,
+        second: &Tested<D>,
         claim: Numbers,
         steps: u32,
         slots: usize,
     ) -> Result<(), Refusal>
-        ensures { Refuses (step_kept_from (said self.now) (first_tables compared.now) (second_tables compared.now) claim steps slots) result }
+        ensures { Refuses (step_kept_from (said self.now) (tables first.now.measured.schema) (tables second.now.measured.schema) claim steps slots) result }
     {
-        if !compared.has_same_symbols() {
+        if first.symbols() != second.symbols() {
             return Err(self.refusal(Fault::Symbols));
         }
         self.permits_claim(claim, Event::Step)?;
-        if !self.has_noted(compared) {
+        if !self.has_noted(first, second) {
             return Err(self.refusal(Fault::Schemas));
         }
         if steps == 0 || steps > MOST_STEPS {
@@ -148,12 +149,12 @@ impl Area {
     }
 
     /// Whether the noted counts are those of the two schemas.
-    fn has_noted<D>(&self, compared: &Compared<D>) -> bool
-        ensures { result ≡ (self.now.symbols == (first_tables compared.now).symbols && (self.now.pairs.firsts == (first_tables compared.now).states && self.now.pairs.seconds == (second_tables compared.now).states)) }
+    fn has_noted<D>(&self, first: &Tested<D>, second: &Tested<D>) -> bool
+        ensures { result ≡ (self.now.symbols == first.now.measured.schema.symbols && (self.now.pairs.firsts == first.now.measured.schema.states && self.now.pairs.seconds == second.now.measured.schema.states)) }
     {
-        let same_symbols = self.symbols as usize == compared.first.symbols();
-        let same_firsts = self.pairs.firsts() as usize == compared.first.states();
-        let same_seconds = self.pairs.seconds() as usize == compared.second.states();
+        let same_symbols = self.symbols as usize == first.symbols();
+        let same_firsts = self.pairs.firsts() as usize == first.states();
+        let same_seconds = self.pairs.seconds() as usize == second.states();
         same_symbols && (same_firsts && same_seconds)
     }
 
@@ -180,10 +181,9 @@ pub fn step<D: Domain>(
     ensures { Stepping (tables first.now) (tables second.now) (sets D.Domain.holds first.now) (sets D.Domain.holds second.now) claim steps (length scratch.old) area.old result area.new }
 {
     let (first, second) = Tested::both(first, second)?;
-    let compared = Compared::of(&first, &second);
-    area.permits_step(&compared, claim, steps, scratch.len())?;
+    area.permits_step(&first, &second, claim, steps, scratch.len())?;
     let before = area.examined;
-    area.examine_up_to(&compared, steps, scratch);
+    area.examine_up_to(&Compared::of(&first, &second), steps, scratch);
     let count = u32::from(area.examined.saturating_sub(before));
     Ok((count, area.mark()))
 }

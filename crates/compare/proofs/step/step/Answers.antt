@@ -1,5 +1,5 @@
 -- The tests in their order, and then the pairs. Assumes nothing.
-use Rattle.std.proofs.Common.{◌≡◌, ℕ, length, None, ap, ◌∙◌, subst}
+use Rattle.std.proofs.Common.{◌≡◌, ℕ, length, None, sym, ap, ◌∙◌, subst}
 use Rattle.schema.specs.declared.tables.Schema.{Schema}
 use Rattle.schema.specs.declared.tested.Tested.{Tested}
 use Rattle.schema.specs.Tables.{tables, sets, automaton}
@@ -14,18 +14,20 @@ pub returns : goal.returns
 returns g c =
     let w = said c.args.area.now in
     let w' = said c.examine_up_to.new.self in
-    let compared = c.of-compared.result in
+    let compared = c.of.result in
     let s = compared.first.now.measured.schema in
     let u = compared.second.now.measured.schema in
-    let firsts = ap (λ (t : Tested g.row.D.Denot). t.measured.schema) c.of-compared.ensures.first ∙ c.in_ok-first.ensures.0 in
-    let seconds = ap (λ (t : Tested g.row.D.Denot). t.measured.schema) c.of-compared.ensures.second ∙ c.in_ok-first.ensures.1 in
+    let firsts = ap (λ (t : Tested g.row.D.Denot). t.measured.schema) c.of.ensures.first ∙ c.in_ok-first.ensures.0 in
+    let seconds = ap (λ (t : Tested g.row.D.Denot). t.measured.schema) c.of.ensures.second ∙ c.in_ok-first.ensures.1 in
     let slots = length c.args.scratch.now in
-    let none = c.in_ok-permits_step.ensures in
+    let none : step_kept_from w (tables s) (tables u) c.args.claim c.args.steps slots ≡ None =
+    subst (λ (t : Tested g.row.D.Denot). step_kept_from w (tables t.measured.schema) (tables u) c.args.claim c.args.steps slots ≡ None) (sym c.of.ensures.first)
+    (subst (λ (v : Tested g.row.D.Denot). step_kept_from w (tables c.in_ok-first.first.measured.schema) (tables v.measured.schema) c.args.claim c.args.steps slots ≡ None) (sym c.of.ensures.second) c.in_ok-permits_step.ensures) in
     let may = allows w (tables s) (tables u) c.args.claim c.args.steps slots none in
     let noted : Noted compared w = record { symbols = may.symbols; firsts = may.firsts; seconds = may.seconds } in
     let answer : ℕ × ℕ = (c.from-count.result, c.mark.result) in
     let on : StepsOn (automaton (tables s) (sets g.D.Domain.holds s)) (automaton (tables u) (sets g.D.Domain.holds u)) c.args.steps w answer w' = record {
-      stepped = c.examine_up_to.ensures noted c.of-compared.ensures.live may.room;
+      stepped = c.examine_up_to.ensures noted c.of.ensures.live may.room;
       count = c.from-count.ensures ∙ c.saturating_sub.ensures;
       mark = c.mark.ensures;
     } in
