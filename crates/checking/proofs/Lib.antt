@@ -1,4 +1,5 @@
 pub mod Midst
 pub mod Outcome
+pub mod Small
 pub mod Stepping
 pub mod Trees

@@ -6,6 +6,7 @@ ghost use Rattle.codec.specs.Encoding.{ReadsEncodings};
 ghost use Rattle.schema.specs.Bindings.{AcceptedIsBound};
 ghost use Rattle.schema.specs.Tables.{tables, sets};
 ghost use Rattle.checking.specs.Checking.{checked, ChecksTrees};
+ghost use Rattle.checking.specs.Examples.{SmallChecks};
 
 use crate::cursor::Cursor;
 use codec::item::Level;
@@ -28,6 +29,7 @@ pub fn check<D: Domain>(
     ensures trees { ChecksTrees }
     ensures encodings { ReadsEncodings }
     ensures bindings { AcceptedIsBound }
+    ensures examples { SmallChecks }
 {
     let tested = Tested::new(schema)?;
     walk::walk(&tested, tree, levels)

@@ -9,7 +9,7 @@ use Rattle.refusal.specs.declared.fault.Fault.TheVariants as fault
 use Rattle.refusal.specs.declared.fault.Refusal.{Refusal}
 use Rattle.codec.specs.Encoding.{tree_bytes, children_bytes, Proper, ProperAll, Encodes, ReadsEncodings}
 use Rattle.codec.specs.Numbers.{Got, got, stop, above, refused, groups_of, number_bytes, read_groups, read_number}
-use Rattle.codec.specs.Reading.{then, read_symbol, read_children, read_tree}
+use Rattle.codec.specs.Reading.{ReadingExamples, then, read_symbol, read_children, read_tree}
 use Rattle.codec.specs.Trees.{Tree, node, Children, none, child, many, height, heights}
 
 -- what was read is no refusal, and is one thing only
@@ -244,6 +244,22 @@ module _ (end s : ℕ) where
         fits = omega (arith, others.fits);
       })
 
+reading_examples : ReadingExamples
+reading_examples = record {
+  one_node = refl;
+  one_child = refl;
+  no_byte = refl;
+  no_count = refl;
+  no_child = refl;
+  wrong_value = refl;
+  wrong_count = refl;
+  other_symbol = refl;
+  too_deep = refl;
+  deep_before_short = refl;
+  symbol_before_deep = refl;
+  left_over = refl;
+}
+
 pub reads_encodings : ReadsEncodings
 reads_encodings =
     record {
@@ -253,4 +269,5 @@ reads_encodings =
           let back-t = tree_back 0 (2 ^ 32) (omega arith) t (height t + height u + 1) [] proper-t (omega arith) in
           let back_u = tree_back 0 (2 ^ 32) (omega arith) u (height t + height u + 1) [] proper-u (omega arith) in
           same_value (sym back-t ∙ ap (λ (bs : List ℕ). read_tree 0 (2 ^ 32) (height t + height u + 1) (bs ++ [])) same ∙ back_u);
+      examples = reading_examples;
     }

@@ -3,7 +3,7 @@ use Rattle.std.proofs.Common.{◌≡◌, ℕ, zero, suc, ◌+◌, ◌-◌, ◌*�
 use Rattle.std.proofs.lemmas.Nat.{shr_below}
 use Rattle.std.proofs.lemmas.List.{drop_more}
 use Rattle.std.proofs.lemmas.Bool.{cases_lt, cond-true, cond-false, lt-ltb, le-ltb}
-use Rattle.codec.specs.Numbers.{groups_of, number_bytes}
+use Rattle.codec.specs.Numbers.{groups_of, number_bytes, NumberExamples}
 
 pub some_group : (k n : ℕ) → 0 < length (groups_of k n)
 some_group zero n = omega arith
@@ -89,3 +89,19 @@ next_byte value i rest follows top inside left =
     let on = left_last value i rest left (omega arith) in
     (on.0 ∙ ⊎_elim (λ low. omega (arith, low.0, low.1)) (λ high. absurd (omega (arith, high.0, on.1))) top, λ h. absurd (omega arith)))
     (cases_lt (i + 1) (length (number_bytes value)))
+
+pub examples : NumberExamples
+examples = record {
+  zero_byte = refl;
+  one_group = refl;
+  two_groups = refl;
+  low_first = refl;
+  five_groups = refl;
+  largest = refl;
+  absent = refl;
+  cut_off = refl;
+  followed = refl;
+  too_large = refl;
+  no_sixth = refl;
+  last_zero = refl;
+}

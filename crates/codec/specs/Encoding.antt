@@ -2,7 +2,7 @@
 use Rattle.std.specs.Prelude.{◌≡◌, ℕ, ◌^◌, ◌<◌, ◌≤◌, List, [], ◌++◌}
 use Rattle.std.specs.List.{AllByRecursion}
 use Rattle.codec.specs.Numbers.{got, number_bytes}
-use Rattle.codec.specs.Reading.{read_tree}
+use Rattle.codec.specs.Reading.{ReadingExamples, read_tree}
 use Rattle.codec.specs.Trees.{Tree, node, Children, none, child, many, height}
 
 -- the bytes of a tree: its value, its child count, and for each child its symbol and its tree
@@ -29,8 +29,10 @@ pub record Encodes (s levels : ℕ) (t : Tree) (bs rest : List ℕ) : Type 0 whe
   pub proper : Proper s t
   pub fits : height t < levels
 
--- reading gives a tree exactly where the bytes begin with its encoding, whatever the input's length is said to be
+-- reading gives a tree exactly where the bytes begin with its encoding, whatever the input's length is said to be; with examples, which show
+-- the faults too
 pub record ReadsEncodings : Type 0 where
   pub back : (end s levels : ℕ) (t : Tree) (bs rest : List ℕ) → s ≤ 2 ^ 32 → Encodes s levels t bs rest → read_tree end s levels bs ≡ got t rest
   pub only : (end s levels : ℕ) (t : Tree) (bs rest : List ℕ) → AllByRecursion (λ b. b < 256) bs → read_tree end s levels bs ≡ got t rest → Encodes s levels t bs rest
   pub one : (t u : Tree) → Proper (2 ^ 32) t → Proper (2 ^ 32) u → tree_bytes t ≡ tree_bytes u → t ≡ u
+  pub examples : ReadingExamples

@@ -55,9 +55,24 @@ overwritten output p bytes = take p output ++ (bytes ++ drop (p + length bytes) 
 pub record Written (output : List ℕ) (p : ℕ) (bytes : List ℕ) (next : ℕ) (output' : List ℕ) : Type 0 where
   pub room : p + length bytes ≤ length output
   pub next_place : next ≡ p + length bytes
-  pub after : output' ≡ take p output ++ (bytes ++ drop (p + length bytes) output)
+  pub after : output' ≡ overwritten output p bytes
 
 -- what writing bytes at a place answers and leaves in the output
 abbrev pub Writes : List ℕ → ℕ → List ℕ → Option ℕ → List ℕ → Type 0
 Writes output p bytes (Some next) output' = Written output p bytes next output'
 Writes output p bytes None output' = (length output < p + length bytes) × (output' ≡ output)
+
+-- examples: numbers with their bytes, and bytes that begin with no number
+pub record NumberExamples : Type 0 where
+  pub zero_byte : number_bytes 0 ≡ 0 ∷ []
+  pub one_group : number_bytes 127 ≡ 127 ∷ []
+  pub two_groups : number_bytes 128 ≡ 128 ∷ 1 ∷ []
+  pub low_first : number_bytes 300 ≡ 172 ∷ 2 ∷ []
+  pub five_groups : number_bytes 2147483738 ≡ 218 ∷ 128 ∷ 128 ∷ 128 ∷ 8 ∷ []
+  pub largest : number_bytes 4294967295 ≡ 255 ∷ 255 ∷ 255 ∷ 255 ∷ 15 ∷ []
+  pub absent : read_number 1 [] ≡ refused fault.Short 1
+  pub cut_off : read_number 2 (128 ∷ []) ≡ refused fault.Short 2
+  pub followed : read_number 4 (172 ∷ 2 ∷ 7 ∷ []) ≡ got 300 (7 ∷ [])
+  pub too_large : read_number 7 (255 ∷ 255 ∷ 255 ∷ 255 ∷ 16 ∷ []) ≡ refused fault.Number 2
+  pub no_sixth : read_number 5 (128 ∷ 128 ∷ 128 ∷ 128 ∷ 128 ∷ []) ≡ refused fault.Number 0
+  pub last_zero : read_number 3 (128 ∷ 0 ∷ []) ≡ refused fault.Number 1

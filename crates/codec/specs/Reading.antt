@@ -1,5 +1,5 @@
 -- Reading one tree off bytes, with its faults in the order met. Assumes nothing.
-use Rattle.std.specs.Prelude.{ℕ, zero, suc, ◌-◌, cond, List, [], ◌∷◌, length, nat_lt}
+use Rattle.std.specs.Prelude.{◌≡◌, ℕ, zero, suc, ◌-◌, cond, List, [], ◌∷◌, length, nat_lt}
 use Rattle.refusal.specs.declared.fault.Fault.TheVariants as fault
 use Rattle.codec.specs.Numbers.{Got, got, stop, refused, read_number}
 use Rattle.codec.specs.Trees.{Tree, node, Children, none, child}
@@ -30,3 +30,22 @@ module _ (end symbols : ℕ) where
   whole (got t []) = got t []
   whole (got t (b ∷ bs)) = refused fault.Rest (end - length (b ∷ bs))
   whole (stop e) = stop e
+
+-- some bytes read as one tree with nothing after it, over so many symbols and with so many levels
+abbrev pub read_all : ℕ → ℕ → List ℕ → Got Tree
+read_all symbols levels bs = whole (length bs) symbols (read_tree (length bs) symbols levels bs)
+
+-- examples: two trees, and each fault where it is met
+pub record ReadingExamples : Type 0 where
+  pub one_node : read_all 2 1 (0 ∷ 0 ∷ []) ≡ got (node 0 none) []
+  pub one_child : read_all 2 2 (5 ∷ 1 ∷ 0 ∷ 6 ∷ 0 ∷ []) ≡ got (node 5 (child 0 (node 6 none) none)) []
+  pub no_byte : read_all 2 1 [] ≡ refused fault.Short 0
+  pub no_count : read_all 2 1 (0 ∷ []) ≡ refused fault.Short 1
+  pub no_child : read_all 2 2 (0 ∷ 1 ∷ 0 ∷ []) ≡ refused fault.Short 3
+  pub wrong_value : read_all 2 1 (128 ∷ 0 ∷ []) ≡ refused fault.Number 0
+  pub wrong_count : read_all 2 1 (0 ∷ 128 ∷ 0 ∷ []) ≡ refused fault.Number 1
+  pub other_symbol : read_all 2 2 (0 ∷ 1 ∷ 2 ∷ 0 ∷ 0 ∷ []) ≡ refused fault.Symbol 2
+  pub too_deep : read_all 2 1 (0 ∷ 1 ∷ 0 ∷ 0 ∷ 0 ∷ []) ≡ refused fault.Deep 3
+  pub deep_before_short : read_all 2 1 (0 ∷ 1 ∷ 0 ∷ []) ≡ refused fault.Deep 3
+  pub symbol_before_deep : read_all 2 1 (0 ∷ 1 ∷ 2 ∷ []) ≡ refused fault.Symbol 2
+  pub left_over : read_all 2 1 (0 ∷ 0 ∷ 7 ∷ []) ≡ refused fault.Rest 2

@@ -1,6 +1,6 @@
 //! Numbers of 32 bits as bytes: groups of seven bits, the lowest first, the top bit set on all but the last.
 ghost use Rattle.std.specs.Prelude.{◌≡◌, length};
-ghost use Rattle.codec.specs.Numbers.{number_bytes, wrong_at, Reads, Writes};
+ghost use Rattle.codec.specs.Numbers.{NumberExamples, number_bytes, wrong_at, Reads, Writes};
 
 use refusal::fault::{Fault, Refusal};
 
@@ -36,8 +36,10 @@ fn is_wrong(group: usize, byte: u8) -> bool
 }
 
 /// How many bytes a number has.
+#[tactic(auto, using(crate::proofs::Spelling::examples))]
 pub fn number_length(value: u32) -> usize
-    ensures { result ≡ length (number_bytes value) }
+    ensures value { result ≡ length (number_bytes value) }
+    ensures examples { NumberExamples }
 {
     match value {
         0..=0x7f => 1,

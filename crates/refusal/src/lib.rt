@@ -3,4 +3,6 @@
 
 pub mod fault;
 pub mod show;
+#[cfg(test)]
+mod tests;
 pub mod words;

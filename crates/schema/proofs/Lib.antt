@@ -5,10 +5,12 @@ pub mod Dead
 pub mod Domains
 pub mod Holding
 pub mod Members
+pub mod Onward
 pub mod Either
 pub mod Gathering
 pub mod Permits
 pub mod Rounds
 pub mod Searches
 pub mod Sizes
+pub mod Small
 pub mod Sound

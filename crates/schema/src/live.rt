@@ -2,7 +2,7 @@
 ghost use Rattle.std.specs.Prelude.{◌≡◌, ℕ, ◌<◌, IfOk, if◌then◌else◌, Some, Decides, MatchResult, slice_get};
 ghost use Rattle.domain.specs.Kinds.{bit};
 ghost use Rattle.domain.specs.Sets.{Smallest};
-ghost use Rattle.schema.specs.Examples.{LeadsBackDead};
+ghost use Rattle.schema.specs.Examples.{SmallSchemas};
 ghost use Rattle.schema.specs.Faults.{table_fault};
 ghost use Rattle.schema.specs.Live.{Found, New, Ranked, LiveMask, RankMask};
 ghost use Rattle.schema.specs.Permitted.{automaton_over};
@@ -118,7 +118,7 @@ impl<D: Domain> Tested<'_, D> {
 pub fn live<D: Domain>(schema: &Schema<D>) -> Result<u64, Refusal>
     ensures answer { MatchResult result (LiveMask (automaton_of D.Domain.holds schema.now) schema.now.states) (λ e. table_fault (tables schema.now) ≡ Some e) }
     ensures ranks { IfOk result (RankMask (automaton_of D.Domain.holds schema.now) schema.now.states) }
-    ensures example { LeadsBackDead }
+    ensures examples { SmallSchemas }
 {
     let tested = Tested::new(schema)?;
     Ok(tested.live_states())

@@ -37,7 +37,7 @@ pub fn members_below(set: u64, number: u8) -> u8
 }
 
 /// The numbers below a count that pass the test; numbers past 63 are left out.
-pub(crate) fn gather<F: Fn(u8) -> bool>(count: u8, test: F) -> u64
+pub fn gather<F: Fn(u8) -> bool>(count: u8, test: F) -> u64
     requires { F.IsAlwaysCallable test }
     ensures inside { (i : ℕ) → bit result i ≡ true → i < count }
     ensures told { (i : ℕ) → i < count → i < 64 → F.post test i (bit result i) }

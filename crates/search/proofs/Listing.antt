@@ -1,4 +1,4 @@
--- The listed pairs: each is an entry, and there are at most 272. Assumes nothing.
+-- The listed pairs: each is an entry, and there are no more than 16 for each state of the watcher. Assumes nothing.
 use Rattle.std.proofs.Common.{◌≡◌, ℕ, ◌+◌, ◌*◌, ◌/◌, ◌%◌, ◌<◌, ◌≤◌, Bool, true, false, ◌&&◌, ◌||◌, eqb, ltb, List, [], ◌∷◌, ◌++◌, length, get_or, set, Some, sym, refl, ap, ◌∙◌, ⊎_elim, arith}
 use Rattle.std.specs.List.{slice_get}
 use Rattle.std.proofs.lemmas.Nat.{mul-add-lt, div-mul-add, mod-mul-add}
@@ -24,9 +24,9 @@ passing_grows : (test more : ℕ → Bool) → ((i : ℕ) → test i ≡ true �
 unfolding passing
 passing_grows = count_grows
 
--- the pairs of a row and one of 17 states in turn: is each listed?
-abbrev cell : Listed → ℕ → Bool
-cell l n = lists l (n / 17) (n % 17)
+-- the pairs of a row and one of so many states in turn: is each listed?
+abbrev cell : ℕ → Listed → ℕ → Bool
+cell states l n = lists l (n / states) (n % states)
 
 -- the entry of a pair
 pub record EntryOf (es : List RowPair) (r s : ℕ) : Type 0 where
@@ -37,32 +37,32 @@ pub record EntryOf (es : List RowPair) (r s : ℕ) : Type 0 where
   pub watch : entry.watch ≡ s
 
 -- each listed pair is an entry's, and there are no more entries than listed pairs
-pub record Noted (l : Listed) (es : List RowPair) : Type 0 where
+pub record Noted (states : ℕ) (l : Listed) (es : List RowPair) : Type 0 where
   pub seen : (r s : ℕ) → lists l r s ≡ true → EntryOf es r s
-  pub few : length es ≤ passing 272 (cell l)
+  pub few : length es ≤ passing (16 * states) (cell states l)
 
-pub noted_few : (l : Listed) (es : List RowPair) → Noted l es → length es ≤ 272
-noted_few l es noted = omega (arith, noted.few, passing_le 272 (cell l))
+pub noted_few : (states : ℕ) (l : Listed) (es : List RowPair) → Noted states l es → length es ≤ 16 * states
+noted_few states l es noted = omega (arith, noted.few, passing_le (16 * states) (cell states l))
 
 -- one pair more, which was not listed
-module _ (l l' : Listed) (es : List RowPair) (p : RowPair) (noted : Noted l es) (low : p.row < 16) (narrow : p.watch < 17) (new : lists l p.row p.watch ≡ false) (listed : (r s : ℕ) → lists l' r s ≡ (lists l r s || (eqb p.row r && eqb p.watch s))) where
+module _ (states : ℕ) (l l' : Listed) (es : List RowPair) (p : RowPair) (noted : Noted states l es) (low : p.row < 16) (narrow : p.watch < states) (new : lists l p.row p.watch ≡ false) (listed : (r s : ℕ) → lists l' r s ≡ (lists l r s || (eqb p.row r && eqb p.watch s))) where
   abbrev its_cell : ℕ
-  its_cell = p.row * 17 + p.watch
+  its_cell = p.row * states + p.watch
 
-  more_cells : passing 272 (cell l) < passing 272 (cell l')
+  more_cells : passing (16 * states) (cell states l) < passing (16 * states) (cell states l')
   more_cells =
-      passing_grows (cell l) (cell l') (λ i h. listed (i / 17) (i % 17) ∙ or_left _ _ h) 272 its_cell (omega (arith, mul-add-lt p.row 17 p.watch 16 low narrow))
+      passing_grows (cell states l) (cell states l') (λ i h. listed (i / states) (i % states) ∙ or_left _ _ h) (16 * states) its_cell (omega (arith, mul-add-lt p.row states p.watch 16 low narrow))
       (at_cell l ∙ new)
       (at_cell l' ∙ listed p.row p.watch ∙ or_right _ _ (and_from _ _ (eq-eqb p.row p.row refl) (eq-eqb p.watch p.watch refl)))
     where
-      at_cell : (t : Listed) → cell t its_cell ≡ lists t p.row p.watch
-      at_cell t = ap (λ (r : ℕ). lists t r (its_cell % 17)) (div-mul-add p.row 17 p.watch narrow) ∙ ap (lists t p.row) (mod-mul-add p.row 17 p.watch narrow)
+      at_cell : (t : Listed) → cell states t its_cell ≡ lists t p.row p.watch
+      at_cell t = ap (λ (r : ℕ). lists t r (its_cell % states)) (div-mul-add p.row states p.watch narrow) ∙ ap (lists t p.row) (mod-mul-add p.row states p.watch narrow)
 
   -- so there was room for it
-  pub room_left : length es < 272
-  room_left = omega (arith, noted.few, more_cells, passing_le 272 (cell l'))
+  pub room_left : length es < 16 * states
+  room_left = omega (arith, noted.few, more_cells, passing_le (16 * states) (cell states l'))
 
-  pub noted_more : Noted l' (es ++ p ∷ [])
+  pub noted_more : Noted states l' (es ++ p ∷ [])
   noted_more =
       record {
         seen = λ r s h.
@@ -76,8 +76,8 @@ module _ (l l' : Listed) (es : List RowPair) (p : RowPair) (noted : Noted l es) 
       }
 
 -- before anything is listed
-pub nothing_noted : (l : Listed) → ((r s : ℕ) → lists l r s ≡ false) → Noted l []
-nothing_noted l none = record { seen = λ r s h. absurd (both_ways (lists l r s) (none r s) h); few = omega arith }
+pub nothing_noted : (states : ℕ) (l : Listed) → ((r s : ℕ) → lists l r s ≡ false) → Noted states l []
+nothing_noted states l none = record { seen = λ r s h. absurd (both_ways (lists l r s) (none r s) h); few = omega arith }
 
 -- the mask of a row has one member more
 pub listed_more : (table : List ℕ) (row watch mask : ℕ) → row < length table → watch < 64 → ((i : ℕ) → bit mask i ≡ (bit (get_or table row 0) i || (ltb watch 64 && eqb watch i))) → (r s : ℕ) → bit (get_or (set table row mask) r 0) s ≡ (bit (get_or table r 0) s || (eqb row r && eqb watch s))

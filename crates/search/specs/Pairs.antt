@@ -1,5 +1,5 @@
 -- Pairs on the pile: the sequence of an entry, what a symbol leads to, and what a search finds. Assumes nothing.
-use Rattle.std.specs.Prelude.{◌≡◌, ℕ, zero, suc, ◌<◌, Bool, cond, ◌&&◌, List, [], ◌∷◌, reverse, length, Some, None, Option, nat_lt}
+use Rattle.std.specs.Prelude.{◌≡◌, ℕ, zero, suc, ◌*◌, ◌<◌, Bool, cond, ◌&&◌, List, [], ◌∷◌, reverse, length, Some, None, Option, nat_lt}
 use Rattle.std.specs.Option.{option_map}
 use Rattle.std.specs.List.{slice_get}
 use Rattle.schema.specs.Automata.{Automaton}
@@ -52,15 +52,16 @@ module _ (A : Automaton) (q : ℕ) (set : ℕ → Bool) (W : Watching) where
   abbrev pub next_pair : RowPair → ℕ → ℕ → Option RowPair
   next_pair p a i = option_map (λ r. record { row = r; watch = W.after p.watch a; symbol = a; parent = i }) (cond (set a) (A.step q p.row a) None)
 
-  -- the sequence of an entry is a shortest one that is sought; it has fewer symbols than there are pairs
-  pub record EndsAt (es : List RowPair) (i : ℕ) : Type 0 where
+  -- the sequence of an entry is the shortest that is sought; it has fewer symbols than there are pairs of one of 16 rows and a state of the
+  -- watcher, of which there are so many
+  pub record EndsAt (states : ℕ) (es : List RowPair) (i : ℕ) : Type 0 where
     pub inside : i < length es
     pub sequence : List ℕ
     pub spelled : Spells es i sequence
     pub shortest : Shortest A q set W sequence
-    pub few : length sequence < 272
+    pub few : length sequence < 16 * states
 
-  -- what a search finds: an entry that a shortest sequence ends at, or none where no sequence is sought
-  abbrev pub Finds : List RowPair → Option ℕ → Type 0
-  Finds es (Some i) = EndsAt es i
-  Finds es None = (w : List ℕ) → Sought A q set W w → ⊥
+  -- what a search finds: an entry that the shortest sequence ends at, or none where no sequence is sought
+  abbrev pub Finds : ℕ → List RowPair → Option ℕ → Type 0
+  Finds states es (Some i) = EndsAt states es i
+  Finds states es None = (w : List ℕ) → Sought A q set W w → ⊥

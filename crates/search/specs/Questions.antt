@@ -25,6 +25,6 @@ module _ {D W : Type 0} (holds : D → ℕ → Bool) (watching : W → Watching)
   abbrev pub goal_of : RowPair → Bool
   goal_of = goal (automaton_asked holds s) s.state (watching s.watcher.now)
 
-  -- what a search for an answer finds
-  abbrev pub Answers : List RowPair → Option ℕ → Type 0
+  -- what a search for an answer finds, where the watcher has so many states
+  abbrev pub Answers : ℕ → List RowPair → Option ℕ → Type 0
   Answers = Finds (automaton_asked holds s) s.state (bit s.symbols) (watching s.watcher.now)

@@ -27,17 +27,17 @@ wanted W w = W.wants (watched W W.start w)
 abbrev pub anything : Watching
 anything = record { start = 0; after = λ s b. 0; wants = λ s. true }
 
-pub anything_low : StatesBelow 17 anything
+pub anything_low : StatesBelow 1 anything
 anything_low = record { start = lit< tt; after = λ s b fits fits'. lit< tt }
 
 -- 1 once the symbol came, and 0 before
 abbrev pub holding : ℕ → Watching
 holding a = record { start = 0; after = λ s b. cond (s == 1 || b == a) 1 0; wants = λ s. (s == 1) }
 
-pub holding_low : (a : ℕ) → StatesBelow 17 (holding a)
+pub holding_low : (a : ℕ) → StatesBelow 2 (holding a)
 holding_low a = record { start = lit< tt; after = λ s b fits fits'. by (s == 1 || b == a) }
   where
-    by : (t : Bool) → cond t 1 0 < 17
+    by : (t : Bool) → cond t 1 0 < 2
     by true = lit< tt
     by false = lit< tt
 

@@ -1,6 +1,7 @@
 //! The breadth-first search over pairs of a row and a watcher's state.
 ghost use Rattle.std.specs.Prelude.{◌≡◌, ◌<◌, ◌≤◌, [], length};
 ghost use Rattle.search.specs.Questions.{first_of, next_of, goal_of, Answers};
+ghost use Rattle.search.specs.Sequences.{OneShortest};
 
 use crate::listed::Listed;
 use crate::pairs::{ROW_PAIRS, RowPair};
@@ -55,10 +56,12 @@ impl<D: Domain, W: Watcher> Question<'_, '_, D, W> {
         self.tested.may_end(self.state, pair.row) && self.watcher.wants(pair.watch)
     }
 
-    /// A shortest sequence that is sought: the entry of the pile that it ends at, or none where there is none. The pile has to be empty and
-    /// to have ROW_PAIRS slots.
+    /// The shortest sequence that is sought, and of those that are as short the first by its symbols: the entry of the pile that it ends at, or
+    /// none where none is sought. The pile has to be empty and to have ROW_PAIRS slots.
     pub fn search(&self, pile: &mut Pile<RowPair>) -> Option<usize>
-        ensures answer { self.now.state < self.now.tested.now.measured.schema.states → pile.old.entries ≡ [] → 272 ≤ length pile.old.free → Answers D.Domain.holds W.Watcher.watching self.now pile.new.entries result }
+        ensures answer { self.now.state < self.now.tested.now.measured.schema.states → pile.old.entries ≡ [] → 272 ≤ length pile.old.free → Answers D.Domain.holds W.Watcher.watching self.now W.Watcher.states pile.new.entries result }
+        ensures one { OneShortest }
+        ensures slots { ROW_PAIRS ≡ 272 }
     {
         let first = self.first_pair();
         let mut listed = Listed::new();

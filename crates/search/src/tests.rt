@@ -61,6 +61,17 @@ fn at_most_one<'a>(domains: &'a [Keywords]) -> Schema<'a, Keywords> {
     two_symbols(2, &[0, 255], &[0, 2, 0, 0], &[1, 1, 0, 1, 255, 1], domains)
 }
 
+/// Each of the symbols once, in any order.
+fn each_once<'a>(domains: &'a [Keywords]) -> Schema<'a, Keywords> {
+    two_symbols(
+        4,
+        &[0, 0],
+        &[0, 4, 0, 0],
+        &[0, 1, 2, 0, 255, 3, 0, 3, 255, 1, 255, 255],
+        domains,
+    )
+}
+
 /// How long a sequence is, and its first two symbols.
 #[derive(Clone, Copy, Debug, PartialEq, Eq)]
 struct Sequence {
@@ -127,6 +138,17 @@ fn a_sequence_that_holds_a_symbol(rt: HostRuntime) -> Result<(), Fail> {
         second: Some(1),
     };
     assert_eq!(rt; find(&chain(&ZERO), 3, &Holding::new(1))?, Some(both));
+    Ok(())
+}
+
+#[test]
+fn the_first_of_two_that_are_as_short(rt: HostRuntime) -> Result<(), Fail> {
+    let first = Sequence {
+        length: 2,
+        first: Some(0),
+        second: Some(1),
+    };
+    assert_eq!(rt; find(&each_once(&ZERO), 3, &Anything)?, Some(first));
     Ok(())
 }
 

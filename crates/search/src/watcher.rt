@@ -1,5 +1,5 @@
 //! Watchers: each reads a sequence symbol by symbol, and says whether it wants what it has read.
-ghost use Rattle.std.specs.Prelude.{◌≡◌};
+ghost use Rattle.std.specs.Prelude.{◌≡◌, ℕ, ◌≤◌};
 ghost use Rattle.search.specs.Watching.{Watching, StatesBelow};
 
 use schema::faults::STATE_ROWS;
@@ -11,6 +11,9 @@ pub const WATCHER_STATES: u8 = STATE_ROWS + 1;
 pub trait Watcher {
     // the machine
     ghost watching: { Self → Watching };
+
+    // how many states it has
+    ghost states: { ℕ };
 
     /// The state before the first symbol.
     fn start(&self) -> u8
@@ -24,6 +27,9 @@ pub trait Watcher {
     fn wants(&self, state: u8) -> bool
         ensures { result ≡ (watching self.now).wants state };
 
-    // its states are below WATCHER_STATES
-    ghost low: { (w : Self) → StatesBelow 17 (watching w) };
+    // its states are numbered from 0
+    ghost low: { (w : Self) → StatesBelow states (watching w) };
+
+    // they are WATCHER_STATES at most
+    ghost few: { states ≤ 17 };
 }

@@ -1,5 +1,6 @@
 //! The watchers: for any sequence, for one that holds a symbol, and for one that a state of another schema refuses.
 ghost use Rattle.std.specs.Prelude.{◌≡◌, ℕ, ◌<◌, not, List, Decides};
+ghost use Rattle.std.proofs.Common.{lit≤};
 ghost use Rattle.schema.specs.Automata.{allowed};
 ghost use Rattle.schema.specs.Tables.{automaton_of};
 ghost use Rattle.search.specs.Watching.{wanted, anything, anything_low, holding, holding_low, Holds, refusing, refusing_low};
@@ -16,7 +17,11 @@ pub struct Anything;
 impl Watcher for Anything {
     ghost watching = { λ _. anything };
 
+    ghost states = { 1 };
+
     ghost low = { λ _. anything_low };
+
+    ghost few = { lit≤ tt };
 
     fn start(&self) -> u8 {
         0
@@ -50,7 +55,11 @@ impl Holding {
 impl Watcher for Holding {
     ghost watching = { λ h. holding h.symbol };
 
+    ghost states = { 2 };
+
     ghost low = { λ h. holding_low h.symbol };
+
+    ghost few = { lit≤ tt };
 
     fn start(&self) -> u8 {
         0
@@ -94,7 +103,11 @@ impl<'a, 'b, D: Domain> Refused<'a, 'b, D> {
 impl<D: Domain> Watcher for Refused<'_, '_, D> {
     ghost watching = { λ r. refusing (automaton_of D.Domain.holds r.tested.now.measured.schema) r.state };
 
+    ghost states = { 17 };
+
     ghost low = { λ r. refusing_low (automaton_of D.Domain.holds r.tested.now.measured.schema) r.state };
+
+    ghost few = { lit≤ tt };
 
     fn start(&self) -> u8 {
         0

@@ -10,10 +10,10 @@ use Rattle.schema.specs.Permitted.{permit}
 use Rattle.schema.specs.Rows.{AfterEdge}
 use Rattle.schema.specs.Tables.{tables, sets, automaton_of}
 use Rattle.schema.proofs.Gathering.{Partly, chosen_some, partly_start, partly_here, partly_more, partly_done}
+use Rattle.schema.proofs.Onward.{live_leads, path_push}
 use Rattle.schema.proofs.Sizes.{sized}
 use Rattle.schema.proofs.Sound.{sound}
 use Rattle.trim.specs.Kept.{LedTo}
-use Rattle.trim.proofs.Paths.{live_leads, path_push}
 
 -- a live symbol leads from one state to another
 abbrev pub LiveEdge : Automaton → ℕ → ℕ → ℕ → Type 0

@@ -81,4 +81,4 @@ module _ (T : Tables) (domains : List (ℕ → Bool)) (permitted kept : ℕ → 
       }
 
 pub trimming_law : TrimmingLaw
-trimming_law = trims
+trimming_law = record { reading = λ A permitted q t. accepts_permitted permitted A q t; trims = trims }

@@ -8,6 +8,7 @@ pub mod Numbers
 pub mod Paths
 pub mod Permits
 pub mod Simulates
+pub mod Small
 pub mod Sound
 pub mod Steps
 pub mod Sums

@@ -1,14 +1,14 @@
 -- Live symbols lead to a state exactly when some node of some accepted tree is bound to it. Assumes nothing.
-use Rattle.std.proofs.Common.{◌≡◌, ℕ, Bool, true, List, [], ◌∷◌, ◌++◌, Some, sym, refl, ap, ◌∙◌, subst, inl, inr, ⊎_elim, append_assoc}
-use Rattle.std.proofs.lemmas.Option.{same_Some}
+use Rattle.std.proofs.Common.{◌≡◌, ℕ, Bool, true, List, [], ◌∷◌, ◌++◌, Some, sym, refl, ap, ◌∙◌, subst, inl, inr, ⊎_elim}
 use Rattle.std.specs.List.{AllByRecursion}
 use Rattle.std.proofs.lemmas.Bool.{and_parts}
 use Rattle.codec.specs.Trees.{Tree, node, Children, none, child, word}
 use Rattle.schema.specs.Automata.{Automaton, allowed, accepts}
 use Rattle.schema.specs.Bindings.{States, at, StatesBelow, leaf, beside, root, Occurs, OccursBelow, Bound, BoundAll}
-use Rattle.schema.specs.Live.{Live, LiveSequence, LiveSymbol, LivePath}
+use Rattle.schema.specs.Live.{Live, LiveSymbol, LivePath}
 use Rattle.schema.specs.Permitted.{permit}
 use Rattle.schema.proofs.Bound.{accepted_is_bound}
+use Rattle.schema.proofs.Onward.{Leads, live_symbols, live_next, path_push}
 use Rattle.trim.specs.Kept.{Kept, Used}
 use Rattle.trim.proofs.Permits.{bound_freed, bound_permitted}
 
@@ -17,42 +17,14 @@ occurs_root : (b : States) (q : ℕ) → root b ≡ q → Occurs q b
 occurs_root (at r bs) q e = inl e
 
 module _ (A : Automaton) where
-  -- the symbol leads to a live state
-  abbrev Leads : ℕ → ℕ → Type 0
-  Leads q a = (s : ℕ) × (A.next q a ≡ Some s) × Live A s
-
-  -- each symbol of a live sequence is live
-  live_symbols : (q : ℕ) (w : List ℕ) → LiveSequence A q w → AllByRecursion (LiveSymbol A q) w
-  live_symbols q w live = onwards [] w live
-    where
-      onwards : (u v : List ℕ) → LiveSequence A q (u ++ v) → AllByRecursion (LiveSymbol A q) v
-      onwards u [] live = tt
-      onwards u (a ∷ v) live = ((u, v, live), onwards (u ++ a ∷ []) v (subst (λ (w : List ℕ). LiveSequence A q w) (sym (append_assoc u (a ∷ []) v)) live))
-
-  -- a live symbol leads to a live state
-  pub live_leads : (q a : ℕ) → LiveSymbol A q a → Leads q a
-  live_leads q a (u, v, live) = at_symbol u live.1
-    where
-      at_symbol : (u : List ℕ) → AllByRecursion (Leads q) (u ++ a ∷ v) → Leads q a
-      at_symbol [] all = all.0
-      at_symbol (b ∷ u) all = at_symbol u all.1
-
-  pub live_next : (q a s : ℕ) → LiveSymbol A q a → A.next q a ≡ Some s → Live A s
-  live_next q a s live is = let there = live_leads q a live in subst (λ (k : ℕ). Live A k) (same_Some _ _ (sym there.1 ∙ is)) there.2
-
-  -- one live symbol more
-  pub path_push : (w : List ℕ) (p q a s : ℕ) → LivePath A p w q → LiveSymbol A q a → A.next q a ≡ Some s → LivePath A p (w ++ a ∷ []) s
-  path_push [] p q a s e live is = (subst (λ (k : ℕ). LiveSymbol A k a) (sym e) live, (s, ap (λ (k : ℕ). A.next k a) e ∙ is, refl))
-  path_push (b ∷ w) p q a s path live is = (path.0, (path.1.0, path.1.1, path_push w path.1.0 q a s path.1.2 live is))
-
-  leads_all : (q : ℕ) (cs : Children) (bs : StatesBelow) → BoundAll A q cs bs → AllByRecursion (Leads q) (word cs)
+  leads_all : (q : ℕ) (cs : Children) (bs : StatesBelow) → BoundAll A q cs bs → AllByRecursion (Leads A q) (word cs)
   leads_all q none bs bound = tt
   leads_all q (child a t cs) leaf bound = absurd bound
   leads_all q (child a t cs) (beside b bs) bound = ((root b, bound.0, (t, accepted_is_bound.accepted A t b bound.1)), leads_all q cs bs bound.2)
 
   -- the symbols of a bound node's children are live
   pub bound_live : (v : ℕ) (cs : Children) (q : ℕ) (bs : StatesBelow) → Bound A (node v cs) (at q bs) → AllByRecursion (LiveSymbol A q) (word cs)
-  bound_live v cs q bs bound = live_symbols q (word cs) (bound.1, leads_all q cs bs bound.2)
+  bound_live v cs q bs bound = live_symbols A q (word cs) (bound.1, leads_all q cs bs bound.2)
 
   -- what live symbols pass on holds of every state of a bound tree if it holds of the root's
   module _ (K : ℕ → Type 0) (on : (q a s : ℕ) → K q → LiveSymbol A q a → A.next q a ≡ Some s → K s) where
@@ -88,7 +60,7 @@ module _ (A : Automaton) where
     bound : BoundAll A q children below
 
   -- children for a sequence into live states
-  grow : (q : ℕ) (w : List ℕ) → AllByRecursion (Leads q) w → Grown q w
+  grow : (q : ℕ) (w : List ℕ) → AllByRecursion (Leads A q) w → Grown q w
   grow q [] all = record { children = none; below = leaf; spells = refl; bound = tt }
   grow q (a ∷ w) all =
       let first = accepted_is_bound.bound A all.0.0 all.0.2.0 all.0.2.1 in
@@ -101,7 +73,7 @@ module _ (A : Automaton) where
       }
 
   -- and with a tree of one's own under one of its symbols
-  grow_with : (p a s q : ℕ) → A.next p a ≡ Some s → Spot s q → (u v : List ℕ) → AllByRecursion (Leads p) (u ++ a ∷ v) → (g : Grown p (u ++ a ∷ v)) × OccursBelow q g.below
+  grow_with : (p a s q : ℕ) → A.next p a ≡ Some s → Spot s q → (u v : List ℕ) → AllByRecursion (Leads A p) (u ++ a ∷ v) → (g : Grown p (u ++ a ∷ v)) × OccursBelow q g.below
   grow_with p a s q is spot [] v all =
       let rest = grow p v all.1 in (
         record {
@@ -131,7 +103,7 @@ module _ (A : Automaton) where
   spot (a ∷ w) p q live path =
       let s = path.1.0 in
       let sequence = path.0 in
-      let rest = spot w s q (live_next p a s sequence path.1.1) path.1.2 in
+      let rest = spot w s q (live_next A p a s sequence path.1.1) path.1.2 in
       let g = grow_with p a s q path.1.1 rest sequence.0 sequence.1 sequence.2.1 in
       let v = value p live in
       record {

@@ -1,9 +1,9 @@
 -- The law of trimming: what the trimmed tables are good for. Assumes nothing.
 use Rattle.std.specs.Prelude.{◌≡◌, ℕ, ◌<◌, Bool, true, ◌&&◌, List, None, Decides}
 use Rattle.codec.specs.Trees.{Tree}
-use Rattle.schema.specs.Automata.{accepts}
+use Rattle.schema.specs.Automata.{Automaton, accepts}
 use Rattle.schema.specs.Faults.{table_fault}
-use Rattle.schema.specs.Permitted.{over}
+use Rattle.schema.specs.Permitted.{permit, over}
 use Rattle.schema.specs.Tables.{Tables, automaton}
 use Rattle.trim.specs.Kept.{Kept, Used}
 use Rattle.trim.specs.Trimmed.{number, trimmed}
@@ -16,7 +16,9 @@ pub record Trims (T : Tables) (domains : List (ℕ → Bool)) (permitted kept : 
   pub used : (q : ℕ) → Decides (kept q) (Used (automaton T domains) permitted q)
   pub useful : (q : ℕ) → q < number T permitted kept T.states → Used (automaton (trimmed T permitted kept) domains) (λ _. true) q
 
--- of tables without a fault, where something is kept
-abbrev pub TrimmingLaw : Type 0
-TrimmingLaw =
-    (T : Tables) (domains : List (ℕ → Bool)) (permitted kept : ℕ → Bool) → table_fault T ≡ None → ((q : ℕ) → Decides (kept q) (Kept (automaton T domains) permitted q)) → kept 0 ≡ true → Trims T domains permitted kept
+pub record TrimmingLaw : Type 0 where
+  -- working as if the other symbols had no next state accepts exactly the trees over permitted symbols; so where that accepts nothing, no
+  -- accepted tree is over permitted symbols
+  pub reading : (A : Automaton) (permitted : ℕ → Bool) (q : ℕ) (t : Tree) → accepts (permit permitted A) q t ≡ (accepts A q t && over permitted t)
+  -- of tables without a fault, where something is kept
+  pub trims : (T : Tables) (domains : List (ℕ → Bool)) (permitted kept : ℕ → Bool) → table_fault T ≡ None → ((q : ℕ) → Decides (kept q) (Kept (automaton T domains) permitted q)) → kept 0 ≡ true → Trims T domains permitted kept

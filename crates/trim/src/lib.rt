@@ -4,6 +4,7 @@
 ghost use Rattle.std.specs.Prelude.{◌≡◌};
 ghost use Rattle.domain.specs.Kinds.{bit};
 ghost use Rattle.schema.specs.Tables.{tables, sets};
+ghost use Rattle.trim.specs.Examples.{SmallTrims};
 ghost use Rattle.trim.specs.Law.{TrimmingLaw};
 ghost use Rattle.trim.specs.Outcome.{outputs, Outcome};
 
@@ -29,6 +30,7 @@ pub fn trim<D: Domain>(
 ) -> Result<(usize, usize), Refusal>
     ensures outcome { Outcome (tables schema.now) (sets D.Domain.holds schema.now) (bit permitted) (outputs transitions.old states.old rows.old) result (outputs transitions.new states.new rows.new) }
     ensures law { TrimmingLaw }
+    ensures examples { SmallTrims }
 {
     let tested = Tested::new(schema)?;
     let trimming = Trimming::new(&tested, u64::from(permitted))?;

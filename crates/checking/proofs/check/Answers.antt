@@ -10,6 +10,7 @@ use Rattle.schema.specs.Tables.{tables, sets, automaton}
 use Rattle.schema.proofs.Bound.{accepted_is_bound}
 use Rattle.schema.proofs.Sizes.{sound_tables}
 use Rattle.checking.specs.Checking.{unless, verdict}
+use Rattle.checking.proofs.Small.{small_checks}
 use Rattle.checking.proofs.Trees.{checks_trees}
 use Rattle.checking.proofs.check.Given as given
 use Rattle.checking.proofs.check.Goals as goal
@@ -30,6 +31,7 @@ returns-in_err-tested g c =
       trees = checks_trees;
       encodings = reads_encodings;
       bindings = accepted_is_bound;
+      examples = small_checks;
     }
 
 pub returns : goal.returns
@@ -43,4 +45,5 @@ returns g c =
       trees = checks_trees;
       encodings = reads_encodings;
       bindings = accepted_is_bound;
+      examples = small_checks;
     }

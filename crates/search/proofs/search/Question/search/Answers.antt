@@ -1,5 +1,6 @@
 -- Each turn leaves the search under way; a goal, or the end of the pile, is the answer. Assumes nothing.
 use Rattle.std.proofs.Common.{refl, sym, arith}
+use Rattle.search.proofs.Orders.{one_shortest}
 use Rattle.search.proofs.Underway.{fenced, all_tried, past_end, next_entry, leads_nowhere, to_known, to_new, to_goal, begins, at_once}
 use Rattle.search.proofs.search.Question.search.Goals as goal
 
@@ -7,7 +8,7 @@ pub search-init : goal.search-init
 search-init g c = (
   refl,
   λ low empty room.
-      begins _ _ _ _ _ _ (fenced g.D.Domain.holds c.args.self.now.tested.now c.args.self.now.state low) (g.met.W.Watcher.low c.args.self.now.watcher.now) _ _ _ _ _ c.new-listed.ensures empty room c.first_pair-first.ensures _ c.enlist-bottom.ensures (sym c.if-is_goal.ensures),
+      begins _ _ _ _ _ _ _ (fenced g.D.Domain.holds c.args.self.now.tested.now c.args.self.now.state low) (g.met.W.Watcher.low c.args.self.now.watcher.now) g.met.W.Watcher.few _ _ _ _ _ c.new-listed.ensures empty room c.first_pair-first.ensures _ c.enlist-bottom.ensures (sym c.if-is_goal.ensures),
 )
 
 pub symbols-init : goal.symbols-init
@@ -16,51 +17,59 @@ symbols-init g c = (c.search.invariant.0, λ low empty room. record { under = c.
 pub symbols-preserved-in_default-next_pair : goal.symbols-preserved-in_default-next_pair
 symbols-preserved-in_default-next_pair g c = (
   c.symbols.invariant.0,
-  λ low empty room. leads_nowhere _ _ _ _ _ _ (c.symbols.invariant.1 low empty room) (sym c.in_default-next_pair.ensures),
+  λ low empty room. leads_nowhere _ _ _ _ _ _ _ (c.symbols.invariant.1 low empty room) (sym c.in_default-next_pair.ensures),
 )
 
 pub symbols-preserved-in_default-enlist : goal.symbols-preserved-in_default-enlist
 symbols-preserved-in_default-enlist g c = (
   c.symbols.invariant.0,
   λ low empty room.
-      to_known _ _ _ _ _ _ (c.symbols.invariant.1 low empty room) (sym c.in-Some-next_pair.ensures) (omega arith) c.in_default-enlist.ensures,
+      to_known _ _ _ _ _ _ _ (c.symbols.invariant.1 low empty room) (sym c.in-Some-next_pair.ensures) (omega arith) c.in_default-enlist.ensures,
 )
 
 pub symbols-preserved : goal.symbols-preserved
 symbols-preserved g c = (
   c.symbols.invariant.0,
   λ low empty room.
-      to_new _ _ _ _ _ _ (c.symbols.invariant.1 low empty room) (sym c.in-Some-next_pair.ensures) (omega arith) c.in-Some-enlist.ensures (sym c.if-is_goal-2.ensures),
+      to_new _ _ _ _ _ _ _ (c.symbols.invariant.1 low empty room) (sym c.in-Some-next_pair.ensures) (omega arith) c.in-Some-enlist.ensures (sym c.if-is_goal-2.ensures),
 )
 
 pub search-preserved : goal.search-preserved
 search-preserved g c = (
   c.symbols.invariant.0,
-  λ low empty room. next_entry _ _ _ _ _ _ (c.symbols.invariant.1 low empty room) (omega (arith, c.symbols-test.false, c.symbols-symbol-end.ensures)),
+  λ low empty room. next_entry _ _ _ _ _ _ _ (c.symbols.invariant.1 low empty room) (omega (arith, c.symbols-test.false, c.symbols-symbol-end.ensures)),
 )
 
 pub returns-then-is_goal : goal.returns-then-is_goal
 returns-then-is_goal g c =
     record {
+      one = one_shortest;
+      slots = refl;
       answer = λ low empty room.
-          at_once _ _ _ _ _ _ (fenced g.D.Domain.holds c.args.self.now.tested.now c.args.self.now.state low) (g.met.W.Watcher.low c.args.self.now.watcher.now) _ _ _ _ _ c.new-listed.ensures empty room c.first_pair-first.ensures _ c.enlist-bottom.ensures (sym c.if-is_goal.ensures);
+          at_once _ _ _ _ _ _ _ (fenced g.D.Domain.holds c.args.self.now.tested.now c.args.self.now.state low) (g.met.W.Watcher.low c.args.self.now.watcher.now) g.met.W.Watcher.few _ _ _ _ _ c.new-listed.ensures empty room c.first_pair-first.ensures _ c.enlist-bottom.ensures (sym c.if-is_goal.ensures);
     }
 
 pub returns-after-search : goal.returns-after-search
 returns-after-search g c =
     record {
-      answer = λ low empty room. rw c.search.invariant.0 (all_tried _ _ _ _ _ _ (c.search.invariant.1 low empty room) (omega (arith, c.search-test.false)));
+      one = one_shortest;
+      slots = refl;
+      answer = λ low empty room. rw c.search.invariant.0 (all_tried _ _ _ _ _ _ _ (c.search.invariant.1 low empty room) (omega (arith, c.search-test.false)));
     }
 
 pub returns-in_default : goal.returns-in_default
 returns-in_default g c =
     record {
-      answer = λ low empty room. rw c.search.invariant.0 (past_end _ _ _ _ _ _ (c.search.invariant.1 low empty room) (sym c.in_default.ensures));
+      one = one_shortest;
+      slots = refl;
+      answer = λ low empty room. rw c.search.invariant.0 (past_end _ _ _ _ _ _ _ (c.search.invariant.1 low empty room) (sym c.in_default.ensures));
     }
 
 pub returns-then-is_goal-2 : goal.returns-then-is_goal-2
 returns-then-is_goal-2 g c =
     record {
+      one = one_shortest;
+      slots = refl;
       answer = λ low empty room.
-          to_goal _ _ _ _ _ _ (c.symbols.invariant.1 low empty room) (sym c.in-Some-next_pair.ensures) (omega arith) c.in-Some-enlist.ensures (sym c.if-is_goal-2.ensures);
+          to_goal _ _ _ _ _ _ _ (c.symbols.invariant.1 low empty room) (sym c.in-Some-next_pair.ensures) (omega arith) c.in-Some-enlist.ensures (sym c.if-is_goal-2.ensures);
     }
