@@ -12,7 +12,7 @@ use Rattle.compare.specs.Stepping.{step_kept_from}
 use Rattle.compare.specs.Work.{Work}
 
 -- a test that finds nothing fails
-fails : (b : Bool) (e : Refusal) → cond b (Some e) None ≡ None → b ≡ false
+pub fails : (b : Bool) (e : Refusal) → cond b (Some e) None ≡ None → b ≡ false
 fails true e none = absurd (some_not_none none)
 fails false e none = refl
 

@@ -1,29 +1,22 @@
 -- A closed set of unbroken pairs carries acceptance from the first automaton to the second. Assumes nothing.
-use Rattle.std.proofs.Common.{◌≡◌, ℕ, Bool, true, List, [], ◌∷◌, ◌++◌, Some, sym, refl, subst, append_assoc}
+use Rattle.std.proofs.Common.{◌≡◌, ℕ, Bool, true, sym, refl, subst}
 use Rattle.std.specs.List.{AllByRecursion}
 use Rattle.std.proofs.lemmas.Bool.{and_parts, and_from}
 use Rattle.codec.specs.Trees.{Tree, node, Children, none, child, word}
 use Rattle.schema.specs.Automata.{Automaton, passes, allowed, accepts, accepts_all}
-use Rattle.schema.specs.Live.{Live, LiveSequence, LiveSymbol}
+use Rattle.schema.specs.Live.{LiveSequence, LiveSymbol}
 use Rattle.schema.proofs.Bound.{passed}
+use Rattle.schema.proofs.Onward.{Leads, live_symbols}
 use Rattle.compare.specs.Breaking.{Closed, ClosedCarries}
 
 module _ (A : Automaton) where
   -- the symbols of accepted children lead to live states
-  leads : (p : ℕ) (cs : Children) → accepts_all A p cs ≡ true → AllByRecursion (λ a. (s : ℕ) × (A.next p a ≡ Some s) × Live A s) (word cs)
+  leads : (p : ℕ) (cs : Children) → accepts_all A p cs ≡ true → AllByRecursion (Leads A p) (word cs)
   leads p none h = tt
   leads p (child a t cs) h =
       let parts = and_parts (passes (A.next p a) (λ s. accepts A s t)) _ h in
       let next = passed (A.next p a) (λ s. accepts A s t) parts.0 in
       ((next.0, next.1, (t, next.2)), leads p cs parts.1)
-
-  -- each symbol of a live sequence is live
-  live_symbols : (p : ℕ) (w : List ℕ) → LiveSequence A p w → AllByRecursion (LiveSymbol A p) w
-  live_symbols p w live = onwards [] w live
-    where
-      onwards : (u v : List ℕ) → LiveSequence A p (u ++ v) → AllByRecursion (LiveSymbol A p) v
-      onwards u [] live = tt
-      onwards u (a ∷ v) live = ((u, v, live), onwards (u ++ a ∷ []) v (subst (λ (w : List ℕ). LiveSequence A p w) (sym (append_assoc u (a ∷ []) v)) live))
 
 module _ (A B : Automaton) (P : ℕ → ℕ → Bool) (closed : Closed A B P) where
   mutual

@@ -31,6 +31,6 @@ module _ (A B : Automaton) (n live p q : ℕ) (low : p < n) (inside : (p a s : �
       }
 
   -- the search finds one exactly where the pair is broken in content
-  pub found_breaks : (es : List RowPair) (found : Option ℕ) → Finds A p set W es found → Decides (is_some found) (Broken A B Content p q)
-  found_breaks es (Some i) f = (λ e. breaks f.sequence f.shortest.sought, λ b. refl)
-  found_breaks es None f = (λ e. absurd (false≢true e), λ b. absurd (f b.0 (sought b)))
+  pub found_breaks : (states : ℕ) (es : List RowPair) (found : Option ℕ) → Finds A p set W states es found → Decides (is_some found) (Broken A B Content p q)
+  found_breaks states es (Some i) f = (λ e. breaks f.sequence f.shortest.passes, λ b. refl)
+  found_breaks states es None f = (λ e. absurd (false≢true e), λ b. absurd (f b.0 (sought b)))

@@ -5,6 +5,7 @@ use Rattle.std.proofs.lemmas.Bool.{and_parts, and_from, and_left, and_right, fal
 use Rattle.codec.specs.Trees.{Tree, node, Children, none, child, word}
 use Rattle.schema.specs.Automata.{Automaton, passes, present, row_runs, has_next, allowed, accepts, accepts_all}
 use Rattle.schema.specs.Live.{Live, LiveSequence, LiveSymbol}
+use Rattle.schema.proofs.Onward.{Leads}
 use Rattle.compare.specs.declared.phase.Kind.TheVariants.{Value, Content}
 use Rattle.compare.specs.Breaking.{ToldApart, BrokenTells, OnwardTells, UnbrokenOnward}
 
@@ -14,10 +15,6 @@ there (Some x) h = (x, refl)
 there None h = absurd (false≢true h)
 
 module _ (A : Automaton) where
-  -- the symbol leads to a live state
-  abbrev Leads : ℕ → ℕ → Type 0
-  Leads p a = (s : ℕ) × (A.next p a ≡ Some s) × Live A s
-
   -- children for a sequence, each accepted
   record Grown (p : ℕ) (w : List ℕ) : Type 0 where
     children : Children
@@ -34,7 +31,7 @@ module _ (A : Automaton) where
       }
 
   -- children for a sequence into live states
-  grow : (p : ℕ) (w : List ℕ) → AllByRecursion (Leads p) w → Grown p w
+  grow : (p : ℕ) (w : List ℕ) → AllByRecursion (Leads A p) w → Grown p w
   grow p [] all = record { children = none; spells = refl; all = refl }
   grow p (a ∷ w) all = grow_child p a all.0.0 all.0.2.0 w all.0.1 all.0.2.1 (grow p w all.1)
 

@@ -20,7 +20,7 @@ runs_where_examined (phase.Apart k) is = absurd (let z : ◌≡◌ {A = ℕ} 0 1
 
 module _ (A B : Automaton) where
   -- the noted counts stay
-  counts_stay : (w w' : Work) → Turn A B w w' → (w'.symbols ≡ w.symbols) × (w'.firsts ≡ w.firsts) × (w'.seconds ≡ w.seconds)
+  pub counts_stay : (w w' : Work) → Turn A B w w' → (w'.symbols ≡ w.symbols) × (w'.firsts ≡ w.firsts) × (w'.seconds ≡ w.seconds)
   counts_stay w w' turn =
       ⊎_elim
       (λ none. (ap (λ (x : Work). x.symbols) none.1, ap (λ (x : Work). x.firsts) none.1, ap (λ (x : Work). x.seconds) none.1))

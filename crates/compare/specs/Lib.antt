@@ -1,11 +1,15 @@
 pub mod Beginning
 pub mod Breaking
 pub mod Concluding
+pub mod Growing
 pub mod Listing
+pub mod Outcomes
 pub mod Pairs
 pub mod Phases
 pub mod Refusals
 pub mod Schemas
 pub mod Stepping
+pub mod Strangers
 pub mod Trailing
 pub mod Work
+pub mod Writing

@@ -92,6 +92,10 @@ is_running phase.Running = true
 is_running (phase.Ready v) = false
 is_running (phase.Apart k) = false
 
+-- what keeps sound schemas from anything that the claim with these numbers asks, where it asks no more than a step does
+abbrev pub held_kept_from : Work → Tables → Tables → Numbers → Option Refusal
+held_kept_from w T U claim = first_of (other_symbols w T U ∷ claim_refusal w claim Step ∷ other_counts w T U ∷ [])
+
 -- what keeps sound schemas from a step of the claim with these numbers, which asks for n pairs and lends so many slots
 abbrev pub step_kept_from : Work → Tables → Tables → Numbers → ℕ → ℕ → Option Refusal
 step_kept_from w T U claim n slots = first_of (other_symbols w T U ∷ claim_refusal w claim Step ∷ other_counts w T U ∷ wrong_steps w n ∷ short_scratch slots ∷ [])

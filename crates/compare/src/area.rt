@@ -38,23 +38,24 @@ const START: Listed = Listed {
     symbol: 0,
 };
 
-impl Area {
-    /// A free area with that number.
-    pub fn new(number: u32) -> Area
-        ensures { said result ≡ free number 0 }
-    {
-        Area {
-            number,
-            serial: 0,
-            phase: Phase::Free,
-            symbols: 0,
-            pairs: Pairs::blank(0, 0),
-            examined: 0,
-        }
+/// A free area with that number.
+// No method of the type: callers get the type and no maker of areas beside the public one.
+pub fn free_area(number: u32) -> Area
+    ensures { said result ≡ free number 0 }
+{
+    Area {
+        number,
+        serial: 0,
+        phase: Phase::Free,
+        symbols: 0,
+        pairs: Pairs::blank(0, 0),
+        examined: 0,
     }
+}
 
+impl Area {
     /// A refusal whose place is the area's serial.
-    pub(crate) fn refusal(&self, fault: Fault) -> Refusal
+    pub fn refusal(&self, fault: Fault) -> Refusal
         ensures { result ≡ record { fault = fault; place = self.now.serial } }
     {
         fault.at(self.serial as usize)

@@ -2,6 +2,8 @@
 ghost use Rattle.schema.specs.Tables.{tables, sets};
 ghost use Rattle.compare.specs.declared.event.Event.TheVariants.{Take, Oust};
 ghost use Rattle.compare.specs.Beginning.{Beginning};
+ghost use Rattle.compare.specs.Growing.{BeginsGrown};
+ghost use Rattle.compare.specs.Outcomes.{OneBeginning};
 
 use crate::area::Area;
 use crate::claim::Claim;
@@ -29,24 +31,30 @@ fn begin<D: Domain>(
 
 /// Takes a free area for a comparison of two schemas: (0, 0) is listed, or, where the first schema accepts nothing, the area is ready
 /// with included. Or `size`, `state`, `row`, `domain`, `symbols`, `busy` or `worn`.
+#[tactic(auto, using(crate::proofs::Grown::begins_grown, crate::proofs::Outcomes::one_beginning))]
 pub fn take<D: Domain>(
     area: &mut Area,
     first: &Schema<D>,
     second: &Schema<D>,
 ) -> Result<Claim, Refusal>
-    ensures { Beginning Take (tables first.now) (tables second.now) (sets D.Domain.holds first.now) area.old result area.new }
+    ensures outcome { Beginning Take (tables first.now) (tables second.now) (sets D.Domain.holds first.now) area.old result area.new }
+    ensures grown { BeginsGrown }
+    ensures one { OneBeginning }
 {
     begin(area, first, second, Event::Take)
 }
 
 // Two calls that differ in the event: the product has both.
 /// Takes an area in whatever phase it is. A claim that held it is ousted. Refusals as for `take`, but for `busy`.
+#[tactic(auto, using(crate::proofs::Grown::begins_grown, crate::proofs::Outcomes::one_beginning))]
 pub fn oust<D: Domain>(
     area: &mut Area,
     first: &Schema<D>,
     second: &Schema<D>,
 ) -> Result<Claim, Refusal>
-    ensures { Beginning Oust (tables first.now) (tables second.now) (sets D.Domain.holds first.now) area.old result area.new }
+    ensures outcome { Beginning Oust (tables first.now) (tables second.now) (sets D.Domain.holds first.now) area.old result area.new }
+    ensures grown { BeginsGrown }
+    ensures one { OneBeginning }
 {
     begin(area, first, second, Event::Oust)
 }

@@ -15,7 +15,7 @@ use search::watchers::Refused;
 
 impl<D: Domain> Compared<'_, '_, '_, '_, D> {
     /// The smallest value that the first state's domain has and the second's has not.
-    fn gap(&self, p: u8, q: u8) -> Option<u32>
+    pub fn gap(&self, p: u8, q: u8) -> Option<u32>
         ensures { Smallest (alone ((first_automaton D.Domain.holds self.now).has p) ((second_automaton D.Domain.holds self.now).has q)) result }
     {
         let values = self.first.domain(p)?;

@@ -1,5 +1,8 @@
 //! Concluding a comparison, and giving one up.
 ghost use Rattle.compare.specs.Concluding.{Conclusion, GivingUp};
+ghost use Rattle.compare.specs.Growing.{ConcludesGrown, IncludedCarries, ApartTells};
+ghost use Rattle.compare.specs.Outcomes.{OneConclusion, OneGivingUp};
+ghost use Rattle.compare.specs.Strangers.{ConclusionOfStranger, GivingUpOfStranger};
 
 use crate::area::Area;
 use crate::claim::{ApartClaim, Claim, Lease};
@@ -15,8 +18,14 @@ pub enum Concluded {
 
 /// Concludes the comparison of a ready area. Included spends the claim and frees the area, apart gives an apart claim for it. Or
 /// `foreign`, `ousted` or `early`, with the claim.
+#[tactic(auto, using(crate::proofs::Grown::concludes_grown, crate::proofs::Grown::included_carries, crate::proofs::Grown::apart_tells, crate::proofs::Strangers::conclusion_of_stranger, crate::proofs::Outcomes::one_conclusion))]
 pub fn conclude(area: &mut Area, claim: Claim) -> Result<Concluded, (Refusal, Claim)>
-    ensures { Conclusion area.old claim result area.new }
+    ensures outcome { Conclusion area.old claim result area.new }
+    ensures grown { ConcludesGrown }
+    ensures included { IncludedCarries }
+    ensures apart { ApartTells }
+    ensures stranger { ConclusionOfStranger }
+    ensures one { OneConclusion }
 {
     // no `?`: the claim goes back with the refusal
     if let Err(refusal) = area.permits_claim(claim.numbers(), Event::Conclude) {
@@ -38,8 +47,11 @@ pub fn conclude(area: &mut Area, claim: Claim) -> Result<Concluded, (Refusal, Cl
 
 /// Gives a claim of either kind up. The holder's frees the area and answers 1, an ousted one's only answers 0. Or `foreign`, with the claim.
 // The answer stays a number: the product's rules fix 1 and 0.
+#[tactic(auto, using(crate::proofs::Strangers::giving_up_of_stranger, crate::proofs::Outcomes::one_giving_up))]
 pub fn give_up<S>(area: &mut Area, claim: Lease<S>) -> Result<u32, (Refusal, Lease<S>)>
-    ensures { GivingUp area.old claim result area.new }
+    ensures outcome { GivingUp area.old claim result area.new }
+    ensures stranger { GivingUpOfStranger S }
+    ensures one { OneGivingUp S }
 {
     let numbers = claim.numbers();
     if numbers.area != area.number {

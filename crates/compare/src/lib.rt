@@ -12,3 +12,4 @@ pub mod pairs;
 pub mod phase;
 pub mod step;
 pub mod trail;
+pub mod writing;

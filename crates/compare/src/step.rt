@@ -2,10 +2,13 @@
 ghost use Rattle.std.specs.Prelude.{◌≡◌, ℕ, ◌<◌, ◌≤◌, ◌&&◌, length, if◌then◌else◌, ◌==◌};
 ghost use Rattle.schema.specs.Tables.{tables, sets};
 ghost use Rattle.domain.specs.Kinds.{bit};
-ghost use Rattle.compare.specs.Listing.{entries_of};
+ghost use Rattle.compare.specs.Growing.{StepsGrown, GrownSame};
+ghost use Rattle.compare.specs.Listing.{entries_of, FewPairs};
+ghost use Rattle.compare.specs.Outcomes.{OneStepping};
 ghost use Rattle.compare.specs.Refusals.{Refuses};
 ghost use Rattle.compare.specs.Schemas.{first_automaton, second_automaton, StatePair, MarksLive, Noted};
-ghost use Rattle.compare.specs.Stepping.{next_pair, with_nexts, «Goes_on», Turn, Stepped, Stepping, step_kept_from, is_running};
+ghost use Rattle.compare.specs.Stepping.{next_pair, with_nexts, «Goes_on», Turn, Stepped, Stepping, step_kept_from, held_kept_from, is_running};
+ghost use Rattle.compare.specs.Strangers.{StepOfStranger};
 ghost use Rattle.compare.specs.Work.{said};
 
 use crate::area::Area;
@@ -132,18 +135,32 @@ impl Area {
     ) -> Result<(), Refusal>
         ensures { Refuses (step_kept_from (said self.now) (tables first.now.measured.schema) (tables second.now.measured.schema) claim steps slots) result }
     {
-        if first.symbols() != second.symbols() {
-            return Err(self.refusal(Fault::Symbols));
-        }
-        self.permits_claim(claim, Event::Step)?;
-        if !self.has_noted(first, second) {
-            return Err(self.refusal(Fault::Schemas));
-        }
+        self.permits_held(first, second, claim)?;
         if steps == 0 || steps > MOST_STEPS {
             return Err(self.refusal(Fault::Steps));
         }
         if slots < ROW_PAIRS {
             return Err(Fault::Scratch.at(ROW_PAIRS));
+        }
+        Ok(())
+    }
+
+    /// Refuses what keeps two schemas from what the holder of the claim asks: `symbols`, `foreign`, `ousted` or `schemas`.
+    pub(crate) fn permits_held<D>(
+        &self,
+        first: &Tested<D>,
+        second: &Tested<D>,
+        claim: Numbers,
+    ) -> Result<(), Refusal>
+        ensures { Refuses (held_kept_from (said self.now) (tables first.now.measured.schema) (tables second.now.measured.schema) claim) result }
+    {
+        if first.symbols() != second.symbols() {
+            return Err(self.refusal(Fault::Symbols));
+        }
+        // no phase refuses a holder's step
+        self.permits_claim(claim, Event::Step)?;
+        if !self.has_noted(first, second) {
+            return Err(self.refusal(Fault::Schemas));
         }
         Ok(())
     }
@@ -170,6 +187,7 @@ impl Area {
 /// Examines up to that many pairs in the order of the list, until the verdict stands: how many it examined, and 1 where the verdict
 /// stands, else 0. The claim is told by its two numbers. Or `size`, `state`, `row`, `domain`, `symbols`, `foreign`, `ousted`, `schemas`,
 /// `steps` or `scratch`, and the area is as it was. The row pairs hold anything afterwards.
+#[tactic(auto, using(crate::proofs::Grown::steps_grown, crate::proofs::Grown::grown_same, crate::proofs::Strangers::step_of_stranger, crate::proofs::Turned::one_stepping, crate::proofs::Views::few_pairs))]
 pub fn step<D: Domain>(
     area: &mut Area,
     claim: Numbers,
@@ -178,7 +196,12 @@ pub fn step<D: Domain>(
     steps: u32,
     scratch: &mut [RowPair],
 ) -> Result<(u32, u32), Refusal>
-    ensures { Stepping (tables first.now) (tables second.now) (sets D.Domain.holds first.now) (sets D.Domain.holds second.now) claim steps (length scratch.old) area.old result area.new }
+    ensures outcome { Stepping (tables first.now) (tables second.now) (sets D.Domain.holds first.now) (sets D.Domain.holds second.now) claim steps (length scratch.old) area.old result area.new }
+    ensures grown { StepsGrown }
+    ensures same { GrownSame }
+    ensures stranger { StepOfStranger }
+    ensures one { OneStepping }
+    ensures few { FewPairs }
 {
     let (first, second) = Tested::both(first, second)?;
     area.permits_step(&first, &second, claim, steps, scratch.len())?;

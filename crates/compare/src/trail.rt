@@ -1,6 +1,8 @@
 //! The trail to the broken pair of a comparison that came out apart.
 ghost use Rattle.std.specs.Prelude.{◌≡◌, ℕ, ◌≤◌, List, length};
 ghost use Rattle.compare.specs.Listing.{entries_of};
+ghost use Rattle.compare.specs.Outcomes.{OneTrailing};
+ghost use Rattle.compare.specs.Strangers.{TrailOfStranger};
 ghost use Rattle.compare.specs.Trailing.{Trail, Trailing, TrailWritten, OneTrail, EveryTrail, led_to, broken_index};
 ghost use Rattle.compare.specs.Work.{said};
 
@@ -12,7 +14,7 @@ use refusal::fault::{Fault, Refusal};
 
 /// The pair at an index, where the pair that led to it stands before it.
 // As `found_from` of the search, over pairs of another type: two calls of the library's each.
-fn led_to(pairs: &Pairs, index: usize) -> Option<Listed>
+pub fn led_to(pairs: &Pairs, index: usize) -> Option<Listed>
     ensures { result ≡ led_to (entries_of pairs.now) index }
 {
     pairs
@@ -49,7 +51,7 @@ fn write_trail(pairs: &Pairs, index: usize, output: &mut [u8]) -> usize
 }
 
 /// The index of the broken pair: the one that was examined last.
-fn broken_index(area: &Area) -> usize
+pub(crate) fn broken_index(area: &Area) -> usize
     ensures { result ≡ broken_index (said area.now) }
 {
     let last = area.examined.saturating_sub(1) as usize;
@@ -58,7 +60,7 @@ fn broken_index(area: &Area) -> usize
 
 /// Writes the symbols that lead from the pair (0, 0) to the broken pair at the output's front, a byte each, and tells how many. Or `foreign`,
 /// `ousted`, `early` or `room`. The claim comes back either way.
-#[tactic(auto, using(crate::proofs::Trails::one_trail, crate::proofs::Trails::every_trail))]
+#[tactic(auto, using(crate::proofs::Trails::one_trail, crate::proofs::Trails::every_trail, crate::proofs::Strangers::trail_of_stranger, crate::proofs::Outcomes::one_trailing))]
 pub fn trail(
     area: &Area,
     claim: ApartClaim,
@@ -67,6 +69,8 @@ pub fn trail(
     ensures outcome { Trailing area.now claim output.old result output.new }
     ensures one { OneTrail }
     ensures every { EveryTrail }
+    ensures stranger { TrailOfStranger }
+    ensures answer { OneTrailing }
 {
     // no `?`: the claim goes back with the refusal
     if let Err(refusal) = area.permits_claim(claim.numbers(), Event::Write) {

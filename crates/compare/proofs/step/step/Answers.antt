@@ -10,8 +10,8 @@ use Rattle.compare.proofs.Allowing.{allows}
 use Rattle.compare.proofs.Beginnings.{past_either}
 use Rattle.compare.proofs.step.step.Goals as goal
 
-pub returns : goal.returns
-returns g c =
+pub returns-clause-outcome : goal.returns-clause-outcome
+returns-clause-outcome g c =
     let w = said c.args.area.now in
     let w' = said c.examine_up_to.new.self in
     let compared = c.of.result in

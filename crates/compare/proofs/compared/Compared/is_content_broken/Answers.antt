@@ -27,4 +27,4 @@ returns g c = λ there mask room.
     let same = c.symbols_into.ensures in
     let found = c.search.ensures.answer there.0 c.new-2.ensures.empty (omega (arith, ap length c.new-2.ensures.over)) in
     subst (λ (b : Bool). Decides b (Broken A B Content p q)) (sym c.is_some.ensures)
-    (found_breaks A B s.states compared.live p q there.0 (sound (tables s) (sets holds s) t.sound).next_in mask (bit symbols) same W (c.new.ensures.means there.1) _ c.search.result found)
+    (found_breaks A B s.states compared.live p q there.0 (sound (tables s) (sets holds s) t.sound).next_in mask (bit symbols) same W (c.new.ensures.means there.1) _ _ c.search.result found)

@@ -1,0 +1,217 @@
+-- What holds of an area at every moment of a comparison: it begins so, turns keep it, and a verdict says it of trees. Assumes nothing.
+use Rattle.std.proofs.Common.{◌≡◌, ℕ, zero, suc, ◌+◌, ◌-◌, ◌<◌, Bool, true, false, ltb, List, [], ◌∷◌, length, get_or, Some, Decides, sym, refl, ap, ◌∙◌, subst, inl, inr, ⊎_elim, arith}
+use Rattle.std.specs.List.{slice_get}
+use Rattle.std.proofs.lemmas.Bool.{cases_eq, cases_lt, cond-true, lt-ltb, false≢true}
+use Rattle.std.proofs.lemmas.Option.{none-some, same_Some, slice_get_within, slice_get-get_or}
+use Rattle.schema.specs.Automata.{Automaton}
+use Rattle.schema.specs.Faults.{either_fault}
+use Rattle.schema.specs.Live.{Live, LiveSymbol, LivePath}
+use Rattle.schema.specs.Tables.{Tables, transition_byte, automaton}
+use Rattle.schema.proofs.Onward.{live_next}
+use Rattle.schema.proofs.Sound.{first_none, under}
+use Rattle.search.proofs.Places.{nth_inside}
+use Rattle.compare.specs.declared.pairs.Listed.{Listed}
+use Rattle.compare.specs.declared.phase.Kind.{Kind}
+use Rattle.compare.specs.declared.phase.Phase.{Phase}
+use Rattle.compare.specs.declared.phase.Phase.TheVariants as phase
+use Rattle.compare.specs.declared.phase.Verdict.TheVariants as verdict
+use Rattle.compare.specs.Breaking.{Broken, Unbroken, Closed, ToldApart}
+use Rattle.compare.specs.Growing.{Path, SameAutomata, settled, Reached, Rooted, Passed, LastBroken, Stands, Grown, BeginsGrown, StepsGrown, ConcludesGrown, GrownSame, IncludedCarries, ApartTells}
+use Rattle.compare.specs.Pairs.{blank, listed}
+use Rattle.compare.specs.Stepping.{with_nexts, examined_to, going_on, Turn, Turns, step_kept_from}
+use Rattle.compare.specs.Trailing.{broken_index}
+use Rattle.compare.specs.Work.{Work, said, start, begun}
+use Rattle.compare.proofs.Allowing.{allows}
+use Rattle.compare.proofs.Closed.{closed_carries}
+use Rattle.compare.proofs.Goings.{none_left, one_left}
+use Rattle.compare.proofs.Growing.{Listing, listing, passed_further}
+use Rattle.compare.proofs.Standing.{listed_nth, listed_tells}
+use Rattle.compare.proofs.Telling.{broken_tells, onward_tells, unbroken_onward}
+use Rattle.compare.proofs.Turning.{counts_stay}
+
+-- automata that say the same are the same
+pub same_automata : (A B : Automaton) → SameAutomata A B → A ≡ B
+same_automata A B same = λ i. record { next = λ q a. same.next q a i; step = λ q r a. same.step q r a i; ends = λ q r. same.ends q r i; has = λ q v. same.has q v i }
+
+pub grown_same : GrownSame
+unfolding GrownSame
+grown_same A B C D w first second g = subst (λ (X : Automaton). Grown X D w) (same_automata A C first) (subst (λ (X : Automaton). Grown A X w) (same_automata B D second) g)
+
+-- the pair at a place below another one that is there
+entry_below : (es : List Listed) (i j : ℕ) (e : Listed) → slice_get es j ≡ Some e → i < j → (x : Listed) × (slice_get es i ≡ Some x)
+entry_below es i j e at low = nth_inside es i (omega (arith, low, slice_get_within es j e at))
+
+module _ (A B : Automaton) where
+  -- a broken pair
+  turn_broken : (w : Work) (pair : Listed) (k : Kind) → w.phase ≡ phase.Running → slice_get w.pairs w.examined ≡ Some pair → Broken A B k pair.first pair.second → Grown A B w → Grown A B (examined_to w w.pairs (phase.Ready (verdict.Apart k)))
+  turn_broken w pair k runs at broken g =
+      let last : w.examined ≡ w.examined + 1 - 1 = omega arith in
+      record {
+        rooted = g.rooted;
+        reached = g.reached;
+        examined = λ i e low there. g.examined i e (subst (λ (p : Phase). i < settled p w.examined) (sym runs) (subst (λ (n : ℕ). i < n) (sym last) low)) there;
+        stands = record { some = omega arith; pair = pair; at = subst (λ (n : ℕ). slice_get w.pairs n ≡ Some pair) last at; broken = broken };
+      }
+
+  -- an unbroken pair, where these symbols hold all that are live at its first state
+  module _ (w : Work) (pair : Listed) (live : ℕ → Bool) (low : (p a s : ℕ) → A.next p a ≡ Some s → a < w.symbols) (exact : (a : ℕ) → Decides (live a) (LiveSymbol A pair.first a)) (runs : w.phase ≡ phase.Running) (at : slice_get w.pairs w.examined ≡ Some pair) (unbroken : Unbroken A B pair.first pair.second) (g : Grown A B w) where
+    abbrev es : List Listed
+    es = with_nexts A B live pair.first pair.second w.examined w.symbols w.pairs
+
+    abbrev told : Listing A B live pair w.symbols w.pairs es
+    told = listing A B live pair exact w.examined w.pairs g.reached at w.symbols
+
+    rooted_on : Rooted A B es
+    rooted_on =
+        ⊎_elim
+        (λ first. inl (first.0, told.further.entries 0 start first.1))
+        (λ none. absurd (none-some _ (subst (λ (xs : List Listed). slice_get xs w.examined ≡ Some pair) none.1 at)))
+        g.rooted
+
+    passed_now : Passed A B es pair
+    passed_now =
+        record {
+          unbroken = unbroken;
+          onward = λ a s alive first. let there = unbroken_onward A B pair.first pair.second a unbroken alive in (there.0, there.1, told.added a s there.0 (low pair.first a s first) ((exact a).1 alive) first there.1);
+        }
+
+    passed_on : (i : ℕ) (e : Listed) → i < w.examined + 1 → slice_get es i ≡ Some e → Passed A B es e
+    passed_on i e early there =
+        ⊎_elim
+        (λ before.
+        let x = entry_below w.pairs i w.examined pair at before in
+        let same : x.0 ≡ e = same_Some _ _ (sym (told.further.entries i x.0 x.1) ∙ there) in
+        subst (Passed A B es) same (passed_further A B w.pairs es x.0 told.further (g.examined i x.0 (subst (λ (p : Phase). i < settled p w.examined) (sym runs) before) x.1)))
+        (λ last.
+        let here : w.examined ≡ i = omega arith in
+        subst (Passed A B es) (same_Some _ _ (sym (told.further.entries w.examined pair at) ∙ ap (slice_get es) here ∙ there)) passed_now)
+        (cases_lt i w.examined)
+
+    grown_as : (p : Phase) → settled p (w.examined + 1) ≡ w.examined + 1 → Stands A B (examined_to w es p) p → Grown A B (examined_to w es p)
+    grown_as p all stands = record { rooted = rooted_on; reached = told.reached; examined = λ i e early there. passed_on i e (subst (λ (n : ℕ). i < n) all early) there; stands = stands }
+
+    turn_unbroken : Grown A B (examined_to w es (going_on (w.examined + 1) es))
+    turn_unbroken =
+        ⊎_elim
+        (λ done. subst (λ (p : Phase). Grown A B (examined_to w es p)) (none_left (w.examined + 1) (length es) es refl done) (grown_as (phase.Ready verdict.Included) refl done))
+        (λ more. subst (λ (p : Phase). Grown A B (examined_to w es p)) (one_left (w.examined + 1) (length es) es refl more) (grown_as phase.Running refl (left more)))
+        (cases_eq (w.examined + 1) (length es))
+      where
+        left : (w.examined + 1 ≡ length es → ⊥) → w.examined + 1 < length es
+        left more = omega (arith, more, slice_get_within es w.examined pair (told.further.entries w.examined pair at))
+
+  turn_grown : (w w' : Work) → ((p a s : ℕ) → A.next p a ≡ Some s → a < w.symbols) → w.phase ≡ phase.Running → Turn A B w w' → Grown A B w → Grown A B w'
+  turn_grown w w' low runs turn g =
+      ⊎_elim
+      (λ none.
+      let inside : w.examined < length w.pairs = subst (Stands A B w) runs g.stands in
+      absurd (none-some _ (sym none.0 ∙ (nth_inside w.pairs w.examined inside).1)))
+      (λ one.
+      ⊎_elim
+      (λ broken. subst (Grown A B) (sym broken.2) (turn_broken w one.pair broken.0 runs one.at broken.1 g))
+      (λ on. subst (Grown A B) (sym on.1.2) (turn_unbroken w one.pair on.1.0 low on.1.1 runs one.at on.0 g))
+      one.outcome)
+      turn
+
+  turns_grown : (k : ℕ) (w w' : Work) → ((p a s : ℕ) → A.next p a ≡ Some s → a < w.symbols) → Turns A B k w w' → Grown A B w → Grown A B w' × (w'.symbols ≡ w.symbols)
+  turns_grown zero w w' low same g = (subst (Grown A B) (sym same) g, ap (λ (x : Work). x.symbols) same)
+  turns_grown (suc k) w w' low turns g =
+      let v = turns.0 in
+      let before = turns_grown k w v low turns.1 g in
+      let noted : v.symbols ≡ w.symbols = before.1 in (
+        turn_grown v w' (λ p a s is. subst (λ (n : ℕ). a < n) (sym noted) (low p a s is)) turns.2 turns.3 before.0,
+        (counts_stay A B v w' turns.3).0 ∙ noted,
+      )
+
+pub steps_grown : StepsGrown
+unfolding StepsGrown
+steps_grown T U sets others claim n slots a answer a' (none, on) g =
+    let w = said a in
+    let kept = (first_none (step_kept_from w T U claim n slots) [] (first_none (either_fault T U) _ none).1).0 in
+    let noted : w.symbols ≡ T.symbols = (allows w T U claim n slots kept).symbols in
+    let low : (p b s : ℕ) → (automaton T sets).next p b ≡ Some s → b < w.symbols = λ p b s is. subst (λ (n : ℕ). b < n) (sym noted) (under b T.symbols (transition_byte T p b) s is).0 in
+    (turns_grown (automaton T sets) (automaton U others) on.stepped.taken w (said a') low on.stepped.turns g).0
+
+module _ (A B : Automaton) where
+  reached_start : Reached A B (start ∷ [])
+  reached_start zero e at = ([], refl, ap (λ (x : Listed). x.first) (same_Some _ _ at), ap (λ (x : Listed). x.second) (same_Some _ _ at))
+  reached_start (suc i) e at = absurd (none-some _ at)
+
+  begun_grown : (w : Work) (T U : Tables) (b : Bool) → Decides b (Live A 0) → Grown A B (begun w T U b)
+  begun_grown w T U true exact = record { rooted = inl (exact.0 refl, refl); reached = reached_start; examined = λ i e low. absurd (omega arith); stands = omega arith }
+  begun_grown w T U false exact = record { rooted = inr (λ live. absurd (false≢true (exact.1 live)), refl); reached = λ i e at. absurd (none-some _ at); examined = λ i e low. absurd (omega arith); stands = refl }
+
+pub begins_grown : BeginsGrown
+unfolding BeginsGrown
+begins_grown e T U sets others a claim a' (none, begins) =
+    subst (Grown (automaton T sets) (automaton U others)) (sym begins.after) (begun_grown (automaton T sets) (automaton U others) (said a) T U begins.live begins.decides)
+
+pub concludes_grown : ConcludesGrown
+unfolding ConcludesGrown
+concludes_grown A B a claim k n apart a' (none, is) g =
+    let w = said a in
+    let last : LastBroken A B w k = subst (Stands A B w) is.0 g.stands in
+    subst (Grown A B) (sym is.4)
+    (record {
+      rooted = g.rooted;
+      reached = g.reached;
+      examined = λ i e low. g.examined i e (subst (λ (p : Phase). i < settled p w.examined) (sym is.0) low);
+      stands = record { some = last.some; pair = last.pair; at = last.at; broken = last.broken };
+    })
+
+module _ (A B : Automaton) where
+  -- what a passed pair says of its two states
+  abbrev Says : List Listed → ℕ → ℕ → Type 0
+  Says es p q = Unbroken A B p q × ((a s : ℕ) → LiveSymbol A p a → A.next p a ≡ Some s → (u : ℕ) × (B.next q a ≡ Some u) × (listed es s u ≡ true))
+
+  -- where every listed pair has passed, the listed pairs are closed
+  closed : (es : List Listed) → ((i : ℕ) (e : Listed) → slice_get es i ≡ Some e → Passed A B es e) → Closed A B (listed es)
+  closed es each =
+      record {
+        unbroken = λ p q there. (pair p q there).0;
+        onward = λ p q a s there. (pair p q there).1 a s;
+      }
+    where
+      pair : (p q : ℕ) → listed es p q ≡ true → Says es p q
+      pair p q there =
+          let at = listed_tells es p q there in
+          let passed = each at.0 (get_or es at.0 blank) (slice_get-get_or es at.0 blank at.1) in
+          subst (λ (r : ℕ). Says es r q) at.2 (subst (Says es (get_or es at.0 blank).first) at.3 (passed.unbroken, passed.onward))
+
+  live_along : (w : List ℕ) (p s : ℕ) → Live A p → LivePath A p w s → Live A s
+  live_along [] p s live path = subst (Live A) path live
+  live_along (a ∷ w) p s live path = live_along w path.1.0 s (live_next A p a path.1.0 path.0 path.1.1) path.1.2
+
+  -- two states that a tree tells apart are led to from two others, which a tree tells apart too
+  told_back : (w : List ℕ) (p q s u : ℕ) → Live A p → LivePath A p w s → Path B q w u → ToldApart A B s u → ToldApart A B p q
+  told_back [] p q s u live path also told = subst (λ (r : ℕ). ToldApart A B r q) (sym path) (subst (ToldApart A B s) (sym also) told)
+  told_back (a ∷ w) p q s u live path also told =
+      onward_tells A B p q a path.1.0 also.0 live path.0 path.1.1 also.1
+      (told_back w path.1.0 also.0 s u (live_next A p a path.1.0 path.0 path.1.1) path.1.2 also.2 told)
+
+  -- the broken pair that a trail is written of is the one examined last
+  pub last_index : (w : Work) (k : Kind) → LastBroken A B w k → broken_index w ≡ w.examined - 1
+  last_index w k last = cond-true (ltb (w.examined - 1) (length w.pairs)) (w.examined - 1) 0 (lt-ltb (w.examined - 1) (length w.pairs) (slice_get_within w.pairs (w.examined - 1) last.pair last.at))
+
+  last_tells : (w : Work) (k : Kind) → Grown A B w → LastBroken A B w k → ToldApart A B 0 0
+  last_tells w k g last =
+      let r = g.reached (w.examined - 1) last.pair last.at in
+      ⊎_elim
+      (λ first. told_back r.0 0 0 last.pair.first last.pair.second first.0 r.2 r.3 (broken_tells A B k last.pair.first last.pair.second (live_along r.0 0 last.pair.first first.0 r.2) last.broken))
+      (λ none. absurd (none-some _ (subst (λ (xs : List Listed). slice_get xs (w.examined - 1) ≡ Some last.pair) none.1 last.at)))
+      g.rooted
+
+pub included_carries : IncludedCarries
+unfolding IncludedCarries
+included_carries A B w g is t accepted =
+    let all : w.examined ≡ length w.pairs = subst (Stands A B w) is g.stands in
+    let each : (i : ℕ) (e : Listed) → slice_get w.pairs i ≡ Some e → Passed A B w.pairs e = λ i e at. g.examined i e (subst (λ (p : Phase). i < settled p w.examined) (sym is) (omega (arith, all, slice_get_within w.pairs i e at))) at in
+    ⊎_elim
+    (λ first. closed_carries A B (listed w.pairs) (closed A B w.pairs each) 0 0 (listed_nth w.pairs 0 start first.1) t accepted)
+    (λ none. absurd (none.0 (t, accepted)))
+    g.rooted
+
+pub apart_tells : ApartTells
+unfolding ApartTells
+apart_tells A B w k g at =
+    last_tells A B w k g (⊎_elim (λ ready. subst (Stands A B w) ready g.stands) (λ apart. subst (Stands A B w) apart g.stands) at)

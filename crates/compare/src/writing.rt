@@ -1,0 +1,57 @@
+//! What writing a document asks of an area: whether the claim's holder may have one, and the broken pair that it is of.
+ghost use Rattle.schema.specs.Tables.{tables};
+ghost use Rattle.compare.specs.Refusals.{Refuses};
+ghost use Rattle.compare.specs.Work.{said};
+ghost use Rattle.compare.specs.Writing.{write_kept_from, BrokenOf};
+
+use crate::area::Area;
+use crate::claim::Numbers;
+use crate::event::Event;
+use crate::pairs::Pairs;
+use crate::phase::{Kind, Phase};
+use crate::trail::broken_index;
+use refusal::fault::{Fault, Refusal};
+use schema::tested::Tested;
+use search::pairs::ROW_PAIRS;
+
+/// The broken pair of a comparison that came out apart: the list that it stands in, its index there, and how it is broken.
+#[derive(Clone, Copy)]
+pub struct BrokenPair<'a> {
+    pub pairs: &'a Pairs,
+    pub index: usize,
+    pub kind: Kind,
+}
+
+impl Area {
+    /// Refuses what keeps two schemas from a document of the claim: `symbols`, `foreign`, `ousted`, `schemas`, `early` or `scratch`.
+    pub fn permits_write<D>(
+        &self,
+        first: &Tested<D>,
+        second: &Tested<D>,
+        claim: Numbers,
+        slots: usize,
+    ) -> Result<(), Refusal>
+        ensures { Refuses (write_kept_from (said self.now) (tables first.now.measured.schema) (tables second.now.measured.schema) claim slots) result }
+    {
+        self.permits_held(first, second, claim)?;
+        self.permits(Event::Write)?;
+        if slots < ROW_PAIRS {
+            return Err(Fault::Scratch.at(ROW_PAIRS));
+        }
+        Ok(())
+    }
+
+    /// The broken pair, where the area is apart.
+    pub fn broken_pair(&self) -> Option<BrokenPair>
+        ensures { BrokenOf self.now result }
+    {
+        match self.phase {
+            Phase::Apart(kind) => Some(BrokenPair {
+                pairs: &self.pairs,
+                index: broken_index(self),
+                kind,
+            }),
+            _ => None,
+        }
+    }
+}
