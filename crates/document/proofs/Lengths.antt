@@ -1,0 +1,64 @@
+-- How many bytes trees, children and forks have, and counting them up to 65,537. Assumes nothing.
+use Rattle.std.proofs.Common.{◌≡◌, ℕ, ◌+◌, List, ◌∷◌, ◌++◌, length, min, ap, ◌∙◌, arith}
+use Rattle.std.proofs.lemmas.List.{length-append}
+use Rattle.codec.specs.Encoding.{tree_bytes, children_bytes}
+use Rattle.codec.specs.Numbers.{number_bytes}
+use Rattle.codec.specs.Trees.{Tree, node, Children, child, word, many}
+use Rattle.schema.specs.Automata.{Automaton}
+use Rattle.compare.specs.declared.pairs.Listed.{Listed}
+use Rattle.document.specs.Forks.{followed_by, Fork, joined, head, tail}
+use Rattle.document.specs.Seeds.{needed}
+use Rattle.document.proofs.Splitting.{bytes_followed, joined_bytes, many_symbols}
+
+-- what was counted up to 65,537 may be added to and counted again
+pub capped_left : (a b : ℕ) → min (min a 65537 + b) 65537 ≡ min (a + b) 65537
+capped_left a b = omega arith
+
+pub capped_right : (a b : ℕ) → min (a + min b 65537) 65537 ≡ min (a + b) 65537
+capped_right a b = omega arith
+
+pub capped_both : (a b : ℕ) → min (min a 65537 + min b 65537) 65537 ≡ min (a + b) 65537
+capped_both a b = omega arith
+
+-- the length of three lists joined
+length_three : (x y z : List ℕ) → length (x ++ (y ++ z)) ≡ length x + (length y + length z)
+length_three x y z = omega (arith, length-append x (y ++ z), length-append y z)
+
+-- and of two, up to 65,537
+pub capped_append : (x y : List ℕ) → min (length (x ++ y)) 65537 ≡ min (min (length x) 65537 + min (length y) 65537) 65537
+capped_append x y = omega (arith, length-append x y)
+
+-- a tree's bytes are its value's, its child count's and its children's
+pub tree_length : (v : ℕ) (cs : Children) → length (tree_bytes (node v cs)) ≡ length (number_bytes v) + (length (number_bytes (length (word cs))) + length (children_bytes cs))
+tree_length v cs = length_three (number_bytes v) (number_bytes (many cs)) (children_bytes cs) ∙ ap (λ (n : ℕ). length (number_bytes v) + (length (number_bytes n) + length (children_bytes cs))) (many_symbols cs)
+
+-- children's bytes are the first one's symbol's and tree's, and those of the others
+pub child_length : (a : ℕ) (t : Tree) (cs : Children) → length (children_bytes (child a t cs)) ≡ length (number_bytes a) + (length (tree_bytes t) + length (children_bytes cs))
+child_length a t cs = length_three (number_bytes a) (tree_bytes t) (children_bytes cs)
+
+-- with others after them there are the others' bytes more
+pub followed_length : (cs ds : Children) → length (children_bytes (followed_by cs ds)) ≡ length (children_bytes cs) + length (children_bytes ds)
+followed_length cs ds = ap length (bytes_followed cs ds) ∙ length-append (children_bytes cs) (children_bytes ds)
+
+module _ (A B : Automaton) {p q : ℕ} {e : Listed} (f : Fork A B p q e) where
+  -- the bytes of a fork but for the part: its value's, its child count's, those of the children before, of the symbol, and of the children
+  -- after
+  pub fork_length : length (head A B f) + length (tail A B f) ≡ length (number_bytes f.value) + (length (number_bytes (length (word f.before ++ e.symbol ∷ word f.after))) + (length (children_bytes f.before) + (length (number_bytes e.symbol) + length (children_bytes f.after))))
+  fork_length = by (number_bytes f.value) (number_bytes (length (word f.before ++ e.symbol ∷ word f.after))) (children_bytes f.before) (number_bytes e.symbol) (children_bytes f.after)
+    where
+      by : (v n b a x : List ℕ) → length (v ++ (n ++ (b ++ a))) + length x ≡ length v + (length n + (length b + (length a + length x)))
+      by v n b a x = omega (arith, length_three v n (b ++ a), length-append b a)
+
+  -- with the part there are the part's more
+  pub joined_length : (part : Tree) → length (tree_bytes (joined A B f part)) ≡ length (tree_bytes part) + (length (head A B f) + length (tail A B f))
+  joined_length part = ap length (joined_bytes A B f part) ∙ by (head A B f) (tree_bytes part) (tail A B f)
+    where
+      by : (h t x : List ℕ) → length (h ++ (t ++ x)) ≡ length t + (length h + length x)
+      by h t x = omega (arith, length_three h t x)
+
+  -- which holds too of what is counted up to 65,537
+  pub needed_joined : (part : Tree) → needed (joined A B f part) ≡ min (needed part + (length (head A B f) + length (tail A B f))) 65537
+  needed_joined part = by (length (tree_bytes (joined A B f part))) (length (tree_bytes part)) (length (head A B f) + length (tail A B f)) (joined_length part)
+    where
+      by : (n m k : ℕ) → n ≡ m + k → min n 65537 ≡ min (min m 65537 + k) 65537
+      by n m k is = omega (arith, is)

@@ -1,0 +1,69 @@
+-- Where a symbol first stands in a sequence, and the sides of it that a fork's children have. Assumes nothing.
+use Rattle.std.proofs.Common.{◌≡◌, ℕ, ◌+◌, ◌<◌, List, [], ◌∷◌, ◌++◌, take, drop, length, Some, sym, refl, ap, ◌∙◌, arith}
+use Rattle.std.specs.List.{slice_get}
+use Rattle.std.proofs.lemmas.List.{length-take, take-append-drop}
+use Rattle.std.proofs.lemmas.Option.{slice_get_within}
+use Rattle.codec.specs.Trees.{word}
+use Rattle.codec.proofs.Entries.{drop_some, nth_take}
+use Rattle.schema.specs.Automata.{Automaton}
+use Rattle.search.specs.Watching.{Holds}
+use Rattle.compare.specs.declared.pairs.Listed.{Listed}
+use Rattle.document.specs.Documents.{OnWay}
+use Rattle.document.specs.Forks.{Fork}
+use Rattle.document.proofs.Splitting.{holds_here, holds_later}
+use Rattle.document.proofs.Unique.{one_on_way, one_samples}
+
+-- the symbol behind the symbols u
+after_front : (a : ℕ) (u x : List ℕ) → slice_get (u ++ a ∷ x) (length u) ≡ Some a
+after_front a [] x = refl
+after_front a (b ∷ u) x = after_front a u x
+
+-- a sequence is the symbols before a place, the one there, and those after it
+pub parted : (w : List ℕ) (i a : ℕ) → slice_get w i ≡ Some a → w ≡ take i w ++ a ∷ drop (i + 1) w
+parted w i a there = sym (take-append-drop i w) ∙ ap (λ (l : List ℕ). take i w ++ l) (drop_some w i a there)
+
+-- a symbol that stands in a sequence stands at some place
+pub holds_place : (a : ℕ) (w : List ℕ) → Holds a w → (i : ℕ) × (slice_get w i ≡ Some a)
+holds_place a w h = (length h.0, ap (λ (l : List ℕ). slice_get l (length h.0)) h.2 ∙ after_front a h.0 h.1)
+
+-- and one that stands at a place stands in it
+pub place_holds : (a : ℕ) (w : List ℕ) (i : ℕ) → slice_get w i ≡ Some a → Holds a w
+place_holds a w i there = (take i w, drop (i + 1) w, parted w i a there)
+
+-- the symbol stands at no place before i
+abbrev pub NoneBefore : List ℕ → ℕ → ℕ → Type 0
+NoneBefore w i a = (j : ℕ) → j < i → slice_get w j ≡ Some a → ⊥
+
+-- so it does not stand in the symbols before i
+pub none_before : (w : List ℕ) (i a : ℕ) → NoneBefore w i a → Holds a (take i w) → ⊥
+none_before w i a none h =
+    let place = holds_place a (take i w) h in
+    let low : place.0 < i = omega (arith, slice_get_within (take i w) place.0 a place.1, length-take i w) in
+    none place.0 low (sym (nth_take i w place.0 low) ∙ place.1)
+
+-- there is one way to part a sequence at the first such symbol
+pub one_parting : (a : ℕ) (u x v y : List ℕ) → (Holds a u → ⊥) → (Holds a v → ⊥) → u ++ a ∷ x ≡ v ++ a ∷ y → (u ≡ v) × (x ≡ y)
+one_parting a [] x [] y lacks lacks' is = (refl, cc)
+one_parting a [] x (c ∷ v) y lacks lacks' is = let here : c ≡ a = cc in absurd (lacks' (holds_here a c v here))
+one_parting a (b ∷ u) x [] y lacks lacks' is = let here : b ≡ a = cc in absurd (lacks (holds_here a b u here))
+one_parting a (b ∷ u) x (c ∷ v) y lacks lacks' is =
+    let here : b ≡ c = cc in
+    let later : u ++ a ∷ x ≡ v ++ a ∷ y = cc in
+    let rest = one_parting a u x v y (λ h. lacks (holds_later a b u h)) (λ h. lacks' (holds_later a c v h)) later in
+    (ap (λ (d : ℕ). d ∷ u) here ∙ ap (λ (l : List ℕ). c ∷ l) rest.0, rest.1)
+
+module _ (A B : Automaton) {p q : ℕ} {e : Listed} (f : Fork A B p q e) (v : ℕ) (w : List ℕ) (found : OnWay A B p e.symbol v w) where
+  -- the value and the sequence found for a node are its fork's
+  pub fork_says : (f.value ≡ v) × (word f.before ++ e.symbol ∷ word f.after ≡ w)
+  fork_says = one_on_way A B p e.symbol f.value v (word f.before ++ e.symbol ∷ word f.after) w f.on_way found
+
+  -- and the children before and after are those for the symbols before and after the first such symbol
+  pub fork_sides : (u x : List ℕ) → w ≡ u ++ e.symbol ∷ x → (Holds e.symbol u → ⊥) → (word f.before ≡ u) × (word f.after ≡ x)
+  fork_sides u x is lacks = one_parting e.symbol (word f.before) (word f.after) u x f.first lacks (fork_says.1 ∙ is)
+
+-- there is one fork, by its value and its children
+pub one_fork : (A B : Automaton) (p q : ℕ) (e : Listed) (f g : Fork A B p q e) → (f.value ≡ g.value) × (f.before ≡ g.before) × (f.after ≡ g.after)
+one_fork A B p q e f g =
+    let says = fork_says A B f g.value (word g.before ++ e.symbol ∷ word g.after) g.on_way in
+    let sides = fork_sides A B f g.value (word g.before ++ e.symbol ∷ word g.after) g.on_way (word g.before) (word g.after) refl g.first in
+    (says.0, one_samples A p f.before g.before sides.0 f.samples_before g.samples_before, one_samples A p f.after g.after sides.1 f.samples_after g.samples_after)

@@ -1,0 +1,197 @@
+-- A tree built along a way that goes on is a fork with the part built from there on, and its bytes are the part's between the fork's.
+-- Assumes nothing.
+use Rattle.std.proofs.Common.{◌≡◌, ℕ, ◌<◌, List, [], ◌∷◌, ◌++◌, length, sym, refl, ap, ◌∙◌, subst, ⊎_elim, inl, inr, append_assoc, arith}
+use Rattle.std.specs.List.{AllByRecursion}
+use Rattle.std.proofs.lemmas.List.{length-append}
+use Rattle.codec.specs.Encoding.{tree_bytes, children_bytes}
+use Rattle.codec.specs.Numbers.{number_bytes}
+use Rattle.codec.specs.Trees.{Tree, node, Children, none, child, word, many}
+use Rattle.schema.specs.Automata.{Automaton}
+use Rattle.search.specs.Watching.{Holds}
+use Rattle.compare.specs.declared.pairs.Listed.{Listed}
+use Rattle.compare.specs.declared.phase.Kind.{Kind}
+use Rattle.compare.specs.declared.phase.Kind.TheVariants.{Value, Content}
+use Rattle.document.specs.Documents.{AtEnd, OnWay, LeadsTo, Built, GoesOn}
+use Rattle.document.specs.Forks.{followed_by, Fork, joined, head, tail, Split}
+use Rattle.document.specs.Samples.{Samples}
+use Rattle.document.proofs.Growing.{Inside, HaveSeeds, LeadsLive, SampledChildren, sampled_children, live_children, sample_children}
+
+-- the symbols of children with others after them
+pub word_followed : (cs ds : Children) → word (followed_by cs ds) ≡ word cs ++ word ds
+word_followed none ds = refl
+word_followed (child a t cs) ds = ap (λ (w : List ℕ). a ∷ w) (word_followed cs ds)
+
+-- there are as many children as symbols
+pub many_symbols : (cs : Children) → many cs ≡ length (word cs)
+many_symbols none = refl
+many_symbols (child a t cs) = omega (arith, many_symbols cs)
+
+-- their bytes
+pub bytes_followed : (cs ds : Children) → children_bytes (followed_by cs ds) ≡ children_bytes cs ++ children_bytes ds
+bytes_followed none ds = refl
+bytes_followed (child a t cs) ds =
+    ap (λ (l : List ℕ). number_bytes a ++ (tree_bytes t ++ l)) (bytes_followed cs ds)
+    ∙ ap (λ (l : List ℕ). number_bytes a ++ l) (sym (append_assoc (tree_bytes t) (children_bytes cs) (children_bytes ds)))
+    ∙ sym (append_assoc (number_bytes a) (tree_bytes t ++ children_bytes cs) (children_bytes ds))
+
+-- samples after samples are samples
+pub samples_followed : (A : Automaton) (p : ℕ) (cs ds : Children) → Samples A p cs → Samples A p ds → Samples A p (followed_by cs ds)
+samples_followed A p none ds s u = u
+samples_followed A p (child a t cs) ds s u = (s.0, samples_followed A p cs ds s.1 u)
+
+-- a symbol that stands in the rest of a sequence stands in it
+pub holds_later : (a b : ℕ) (w : List ℕ) → Holds a w → Holds a (b ∷ w)
+holds_later a b w h = (b ∷ h.0, h.1, ap (λ (l : List ℕ). b ∷ l) h.2)
+
+-- the first symbol stands in the sequence
+pub holds_here : (a b : ℕ) (w : List ℕ) → b ≡ a → Holds a (b ∷ w)
+holds_here a b w same = ([], w, ap (λ (c : ℕ). c ∷ w) same)
+
+-- in a sequence without symbols none stands
+holds_none : (a : ℕ) → Holds a [] → ⊥
+holds_none a h = by h.0 h.2
+  where
+    by : (u : List ℕ) → [] ≡ u ++ a ∷ h.1 → ⊥
+    by u is = omega (arith, ap length is, length-append u (a ∷ h.1))
+
+module _ (A B : Automaton) (k : Kind) (p q : ℕ) (e : Listed) (way : List Listed) where
+  goes_on : (part : Tree) (cs ds : Children) → (Holds e.symbol (word cs) → ⊥) → Samples A p cs → Built A B k e.first e.second way part → Samples A p ds → GoesOn A B k p e way (followed_by cs (child e.symbol part ds))
+  goes_on part none ds first s built u = inl (refl, built, u)
+  goes_on part (child a t cs) ds first s built u =
+      inr ((λ same. first (holds_here e.symbol a (word cs) same)), (s.0, tt), goes_on part cs ds (λ h. first (holds_later e.symbol a (word cs) h)) s.1 built u)
+
+  -- a part with a fork on top is built along a way that is one pair longer
+  pub joined_built : (f : Fork A B p q e) (part : Tree) → Built A B k e.first e.second way part → Built A B k p q (e ∷ way) (joined A B f part)
+  joined_built f part built = (
+    subst (OnWay A B p e.symbol f.value) (sym (word_followed f.before (child e.symbol part f.after))) f.on_way,
+    f.leads,
+    goes_on part f.before f.after f.first f.samples_before built f.samples_after,
+  )
+
+  -- where a way goes on among children
+  record Parting (cs : Children) : Type 0 where
+    before : Children
+    part : Tree
+    after : Children
+    is : cs ≡ followed_by before (child e.symbol part after)
+    first : Holds e.symbol (word before) → ⊥
+    samples_before : Samples A p before
+    samples_after : Samples A p after
+    built : Built A B k e.first e.second way part
+
+  parting : (cs : Children) → GoesOn A B k p e way cs → Parting cs
+  parting none on = absurd on
+  parting (child a t cs) on =
+      ⊎_elim
+      (λ here.
+      record {
+        before = none;
+        part = t;
+        after = cs;
+        is = ap (λ (b : ℕ). child b t cs) here.0;
+        first = holds_none e.symbol;
+        samples_before = tt;
+        samples_after = here.2;
+        built = here.1;
+      })
+      (λ later.
+      let rest = parting cs later.2 in
+      record {
+        before = child a t rest.before;
+        part = rest.part;
+        after = rest.after;
+        is = ap (λ (ds : Children). child a t ds) rest.is;
+        first = λ h. by_place a (word rest.before) later.0 rest.first h.0 h.1 h.2;
+        samples_before = (later.1.0, rest.samples_before);
+        samples_after = rest.samples_after;
+        built = rest.built;
+      })
+      on
+    where
+      by_place : (a : ℕ) (w : List ℕ) → (a ≡ e.symbol → ⊥) → (Holds e.symbol w → ⊥) → (u x : List ℕ) → a ∷ w ≡ u ++ e.symbol ∷ x → ⊥
+      by_place a w other lacks [] x is = let same : a ≡ e.symbol = cc in other same
+      by_place a w other lacks (b ∷ u) x is = let rest : w ≡ u ++ e.symbol ∷ x = cc in lacks (u, x, rest)
+
+  -- a tree built along a way that goes on splits
+  pub built_splits : (t : Tree) → Built A B k p q (e ∷ way) t → Split A B k p q e way t
+  built_splits (node v cs) b =
+      let s = parting cs b.2 in
+      record {
+        fork =
+            record {
+              value = v;
+              before = s.before;
+              after = s.after;
+              on_way = subst (OnWay A B p e.symbol v) (ap word s.is ∙ word_followed s.before (child e.symbol s.part s.after)) b.0;
+              leads = b.1;
+              first = s.first;
+              samples_before = s.samples_before;
+              samples_after = s.samples_after;
+            };
+        part = s.part;
+        built = s.built;
+        whole = ap (node v) s.is;
+      }
+
+-- six lists joined, with the last two apart
+regrouped : (v n b a t x : List ℕ) → v ++ (n ++ (b ++ (a ++ (t ++ x)))) ≡ (v ++ (n ++ (b ++ a))) ++ (t ++ x)
+regrouped v n b a t x = simp append_assoc
+
+module _ (A B : Automaton) {p q : ℕ} {e : Listed} (f : Fork A B p q e) where
+  -- the bytes of a fork with its part: the part's between the fork's own
+  pub joined_bytes : (part : Tree) → tree_bytes (joined A B f part) ≡ head A B f ++ (tree_bytes part ++ tail A B f)
+  joined_bytes part =
+      let others = child e.symbol part f.after in
+      let count : many (followed_by f.before others) ≡ length (word f.before ++ e.symbol ∷ word f.after) = many_symbols (followed_by f.before others) ∙ ap length (word_followed f.before others) in
+      ap (λ (n : ℕ). number_bytes f.value ++ (number_bytes n ++ children_bytes (followed_by f.before others))) count
+      ∙ ap (λ (l : List ℕ). number_bytes f.value ++ (number_bytes (length (word f.before ++ e.symbol ∷ word f.after)) ++ l)) (bytes_followed f.before others)
+      ∙ regrouped (number_bytes f.value) (number_bytes (length (word f.before ++ e.symbol ∷ word f.after))) (children_bytes f.before) (number_bytes e.symbol) (tree_bytes part) (children_bytes f.after)
+
+-- the symbols on both sides of one, each with its samples
+sides : (A : Automaton) (p a : ℕ) (u x : List ℕ) → AllByRecursion (LeadsLive A p) (u ++ a ∷ x) → AllByRecursion (LeadsLive A p) u × AllByRecursion (LeadsLive A p) x
+sides A p a [] x all = (tt, all.1)
+sides A p a (b ∷ u) x all = let rest = sides A p a u x all.1 in ((all.0, rest.0), rest.1)
+
+-- where two states have a value and a sequence with a symbol that leads on to a listed pair, there is a fork
+pub record Forked (A B : Automaton) (p q : ℕ) (e : Listed) (v : ℕ) (u x : List ℕ) : Type 0 where
+  pub fork : Fork A B p q e
+  pub value : fork.value ≡ v
+  pub word_before : word fork.before ≡ u
+  pub word_after : word fork.after ≡ x
+
+module _ (A B : Automaton) (p q : ℕ) (e : Listed) (v : ℕ) (u x : List ℕ) (on_way : OnWay A B p e.symbol v (u ++ e.symbol ∷ x)) (leads : LeadsTo A B p q e) (first : Holds e.symbol u → ⊥) where
+  -- from samples for the symbols before it and after it
+  pub fork_with : SampledChildren A p u → SampledChildren A p x → Forked A B p q e v u x
+  fork_with before after =
+      record {
+        fork =
+            record {
+              value = v;
+              before = before.0;
+              after = after.0;
+              on_way = subst (λ (l : List ℕ). OnWay A B p e.symbol v (l ++ e.symbol ∷ word after.0)) (sym before.1) (subst (λ (l : List ℕ). OnWay A B p e.symbol v (u ++ e.symbol ∷ l)) (sym after.1) on_way);
+              leads = leads;
+              first = λ h. first (subst (Holds e.symbol) before.1 h);
+              samples_before = before.2;
+              samples_after = after.2;
+            };
+        value = refl;
+        word_before = before.1;
+        word_after = after.1;
+      }
+
+  -- and where each live state has what its sample begins with
+  pub fork_of : (n : ℕ) → Inside A n → HaveSeeds A n → p < n → Forked A B p q e v u x
+  fork_of n inside seeded low =
+      let both = sides A p e.symbol u x on_way.1.passes.0.1 in
+      fork_with (sampled_children A n inside seeded p u low both.0) (sampled_children A n inside seeded p x low both.1)
+
+module _ (A B : Automaton) (k : Kind) (p q v : ℕ) (w : List ℕ) where
+  -- with the end's children there is the end's tree
+  pub end_with : AtEnd A B k p q v w → (cs : SampledChildren A p w) → Built A B k p q [] (node v cs.0)
+  end_with end cs = (subst (AtEnd A B k p q v) (sym cs.1) end, cs.2)
+
+-- which the end has, where each live state has what its sample begins with
+pub end_children : (A B : Automaton) (n : ℕ) → Inside A n → HaveSeeds A n → (k : Kind) (p q v : ℕ) (w : List ℕ) → p < n → AtEnd A B k p q v w → SampledChildren A p w
+end_children A B n inside seeded Value p q v w low end = sample_children A n inside seeded p w low end.1
+end_children A B n inside seeded Content p q v w low end = live_children A n inside seeded p w low end.1.passes.0

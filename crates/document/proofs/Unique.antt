@@ -1,0 +1,115 @@
+-- There is one sample of a state, one tree built along a way, and one document. Assumes nothing.
+use Rattle.std.proofs.Common.{◌≡◌, ℕ, Bool, List, [], ◌∷◌, length, Some, sym, refl, ap, ◌∙◌, subst, ⊎_elim, arith}
+use Rattle.std.proofs.lemmas.Bool.{both_ways, cases_order}
+use Rattle.std.proofs.lemmas.Option.{same_Some}
+use Rattle.codec.specs.Trees.{Tree, node, Children, none, child, word}
+use Rattle.domain.specs.Sets.{Smallest}
+use Rattle.schema.specs.Automata.{Automaton}
+use Rattle.search.proofs.Orders.{one_first}
+use Rattle.compare.specs.declared.pairs.Listed.{Listed}
+use Rattle.compare.specs.declared.phase.Kind.{Kind}
+use Rattle.compare.specs.declared.phase.Kind.TheVariants.{Value, Content}
+use Rattle.compare.specs.declared.phase.Phase.TheVariants as phase
+use Rattle.compare.specs.Trailing.{broken_index}
+use Rattle.compare.specs.Work.{Work}
+use Rattle.document.specs.Documents.{AtEnd, OnWay, Built, GoesOn, DocumentOf, OneDocument}
+use Rattle.document.specs.Samples.{LowerSequence, Sample, Samples}
+use Rattle.document.specs.Writing.{DocumentIn, Found, NoDocument}
+use Rattle.document.proofs.Ways.{one_way}
+
+-- a set has one smallest value
+pub one_smallest : (test : ℕ → Bool) (v w : ℕ) → Smallest test (Some v) → Smallest test (Some w) → v ≡ w
+one_smallest test v w f g =
+    ⊎_elim
+    (λ same. same)
+    (λ apart. ⊎_elim (λ low. absurd (both_ways (test v) (g.before v low) f.passes)) (λ low. absurd (both_ways (test w) (f.before w low) g.passes)) apart)
+    (cases_order v w)
+
+-- a node is its value and its children
+same_node : (v w : ℕ) (cs ds : Children) → v ≡ w → cs ≡ ds → node v cs ≡ node w ds
+same_node v w cs ds value children = ap (λ (x : ℕ). node x cs) value ∙ ap (node w) children
+
+-- and children are the first one and the others
+same_child : (a b : ℕ) (t u : Tree) (cs ds : Children) → a ≡ b → t ≡ u → cs ≡ ds → child a t cs ≡ child b u ds
+same_child a b t u cs ds symbol tree others = ap (λ (x : ℕ). child x t cs) symbol ∙ ap (λ (x : Tree). child b x cs) tree ∙ ap (child b u) others
+
+module _ (A : Automaton) where
+  mutual
+    -- a state has one sample
+    pub one_sample : (q : ℕ) (t u : Tree) → Sample A q t → Sample A q u → t ≡ u
+    one_sample q (node v cs) (node w ds) s r =
+        same_node v w cs ds (one_smallest (A.has q) v w s.0 r.0) (one_samples q cs ds (one_first (LowerSequence A q) (word cs) (word ds) s.1 r.1) s.2 r.2)
+
+    -- and the children for a sequence are one way samples
+    pub one_samples : (q : ℕ) (cs ds : Children) → word cs ≡ word ds → Samples A q cs → Samples A q ds → cs ≡ ds
+    one_samples q none none same s r = refl
+    one_samples q none (child b u ds) same s r = absurd (omega (arith, ap length same))
+    one_samples q (child a t cs) none same s r = absurd (omega (arith, ap length same))
+    one_samples q (child a t cs) (child b u ds) same s r =
+        let symbol : a ≡ b = cc in
+        let rest : word cs ≡ word ds = cc in
+        let state : r.0.0 ≡ s.0.0 = same_Some _ _ (sym r.0.1 ∙ ap (A.next q) (sym symbol) ∙ s.0.1) in
+        same_child a b t u cs ds symbol (one_sample s.0.0 t u s.0.2 (subst (λ (p : ℕ). Sample A p u) state r.0.2)) (one_samples q cs ds rest s.1 r.1)
+
+module _ (A B : Automaton) where
+  -- the end has one value and one sequence
+  pub one_end : (k : Kind) (p q v w : ℕ) (x y : List ℕ) → AtEnd A B k p q v x → AtEnd A B k p q w y → (v ≡ w) × (x ≡ y)
+  one_end Value p q v w x y s r = (one_smallest _ v w s.0 r.0, one_first _ x y s.1 r.1)
+  one_end Content p q v w x y s r = (one_smallest _ v w s.0 r.0, one_first _ x y s.1 r.1)
+
+  -- and so has each node before it
+  pub one_on_way : (p a v w : ℕ) (x y : List ℕ) → OnWay A B p a v x → OnWay A B p a w y → (v ≡ w) × (x ≡ y)
+  one_on_way p a v w x y s r = (one_smallest (A.has p) v w s.0 r.0, one_first _ x y s.1 r.1)
+
+  mutual
+    -- there is one tree built along a way
+    pub one_built : (k : Kind) (p q : ℕ) (way : List Listed) (t u : Tree) → Built A B k p q way t → Built A B k p q way u → t ≡ u
+    one_built k p q [] (node v cs) (node w ds) s r =
+        let same = one_end k p q v w (word cs) (word ds) s.0 r.0 in
+        same_node v w cs ds same.0 (one_samples A p cs ds same.1 s.1 r.1)
+    one_built k p q (e ∷ way) (node v cs) (node w ds) s r =
+        let same = one_on_way p e.symbol v w (word cs) (word ds) s.0 r.0 in
+        same_node v w cs ds same.0 (one_going_on k p e way cs ds same.1 s.2 r.2)
+
+    one_going_on : (k : Kind) (p : ℕ) (e : Listed) (way : List Listed) (cs ds : Children) → word cs ≡ word ds → GoesOn A B k p e way cs → GoesOn A B k p e way ds → cs ≡ ds
+    one_going_on k p e way none ds same s r = absurd s
+    one_going_on k p e way (child a t cs) none same s r = absurd r
+    one_going_on k p e way (child a t cs) (child b u ds) same s r =
+        let symbol : a ≡ b = cc in
+        let rest : word cs ≡ word ds = cc in
+        ⊎_elim
+        (λ here.
+        ⊎_elim
+        (λ here'. same_child a b t u cs ds symbol (one_built k e.first e.second way t u here.1 here'.1) (one_samples A p cs ds rest here.2 here'.2))
+        (λ later'. absurd (later'.0 (sym symbol ∙ here.0)))
+        r)
+        (λ later.
+        ⊎_elim
+        (λ here'. absurd (later.0 (symbol ∙ here'.0)))
+        (λ later'.
+        let first : child a t none ≡ child b u none = one_samples A p (child a t none) (child b u none) (ap (λ (c : ℕ). c ∷ []) symbol) later.1 later'.1 in
+        let tree : t ≡ u = cc in
+        same_child a b t u cs ds symbol tree (one_going_on k p e way cs ds rest later.2 later'.2))
+        r)
+        s
+
+pub one_document : OneDocument
+one_document A B k es i v w t u d d' =
+    let way : v ≡ w = one_way es i v w d.leads d'.leads in
+    (way, one_built A B k 0 0 w t u (subst (λ (l : List Listed). Built A B k 0 0 l t) way d.built) d'.built)
+
+module _ (A B : Automaton) (w : Work) where
+  -- an area's broken pair has one document
+  pub one_document_in : (v u : List Listed) (t r : Tree) → DocumentIn A B w v t → DocumentIn A B w u r → (v ≡ u) × (t ≡ r)
+  one_document_in v u t r d d' =
+      let kinds : phase.Apart d.0 ≡ phase.Apart d'.0 = sym d.1 ∙ d'.1 in
+      let kind : d.0 ≡ d'.0 = cc in
+      one_document A B d'.0 w.pairs (broken_index w) v u t r (subst (λ (k : Kind). DocumentOf A B k w.pairs (broken_index w) v t) kind d.2) d'.2
+
+  -- so what is found is one tree
+  pub one_found : (f g : Found A B w) → f.tree ≡ g.tree
+  one_found f g = (one_document_in f.way g.way f.tree g.tree f.document g.document).1
+
+  -- where one is found, it is not lacking
+  pub found_or_not : Found A B w → NoDocument A B w → ⊥
+  found_or_not f lacks = lacks f.way f.tree f.document

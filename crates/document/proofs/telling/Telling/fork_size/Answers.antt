@@ -1,0 +1,16 @@
+-- The value, the child count, the symbol, and the children on both sides. Assumes nothing.
+use Rattle.std.proofs.Common.{ℕ, ◌+◌, length, min, sym, ap, ◌∙◌}
+use Rattle.codec.specs.Numbers.{number_bytes}
+use Rattle.document.specs.Nodes.{first_automaton, second_automaton}
+use Rattle.document.proofs.Stepping.{fork_sum}
+use Rattle.document.proofs.telling.Telling.fork_size.Goals as goal
+
+pub returns : goal.returns
+returns g c = λ has low q e f symbol value all before after.
+    let t = c.args.self.now in
+    fork_sum (first_automaton g.D.Domain.holds t) (second_automaton g.D.Domain.holds t) f c.number_length.result c.number_length-2.result c.number_length-3.result c.children_size.result c.children_size-2.result c.add.result
+    (c.number_length.ensures.value ∙ ap (λ (n : ℕ). length (number_bytes n)) (sym value))
+    (c.number_length-2.ensures.value ∙ ap (λ (n : ℕ). length (number_bytes n)) (c.len.ensures.count ∙ sym (ap length all)))
+    (c.number_length-3.ensures.value ∙ ap (λ (n : ℕ). length (number_bytes n)) (c.from.ensures ∙ sym symbol))
+    (c.children_size.ensures.live has low f.before f.samples_before before) (c.children_size-2.ensures.live has low f.after f.samples_after after)
+    (c.add.ensures ∙ ap (λ (n : ℕ). min (c.number_length.result + c.number_length-2.result + c.number_length-3.result + n) 65537) c.add-others.ensures)

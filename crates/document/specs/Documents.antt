@@ -1,0 +1,71 @@
+-- Documents: the tree that tells two automata apart, built along the trail to a broken pair. Assumes nothing.
+use Rattle.std.specs.Prelude.{◌≡◌, ℕ, ◌<◌, true, false, ◌⊎◌, List, [], ◌∷◌, map, reverse, Some}
+use Rattle.std.specs.List.{slice_get}
+use Rattle.codec.specs.Trees.{Tree, node, Children, none, child, word}
+use Rattle.domain.specs.Sets.{Smallest, alone}
+use Rattle.schema.specs.Automata.{Automaton, allowed, accepts}
+use Rattle.schema.specs.Live.{LiveSequence}
+use Rattle.search.specs.Sequences.{First}
+use Rattle.search.specs.Watching.{Holds}
+use Rattle.compare.specs.declared.pairs.Listed.{Listed}
+use Rattle.compare.specs.declared.phase.Kind.{Kind}
+use Rattle.compare.specs.declared.phase.Kind.TheVariants.{Value, Content}
+use Rattle.document.specs.Samples.{SampleSequence, Samples}
+
+-- from an entry along its parents to the first one: the entries on the way but for the first, the last one first
+abbrev pub Climbs : List Listed → ℕ → List Listed → Type 0
+Climbs es i [] = i ≡ 0
+Climbs es i (e ∷ way) = (slice_get es i ≡ Some e) × (e.parent < i) × Climbs es e.parent way
+
+-- the way from the first entry to entry i: the entries on it but for the first, in order
+abbrev pub Way : List Listed → ℕ → List Listed → Type 0
+Way es i way = Climbs es i (reverse way)
+
+-- the symbols of a way
+abbrev pub symbols_of : List Listed → List ℕ
+symbols_of way = map (λ (e : Listed). e.symbol) way
+
+module _ (A B : Automaton) where
+  -- the value and the children's symbols at the end, a pair broken in value or in content: the smallest value in the first state's domain
+  -- alone, with the sequence of the state's sample; or the least value, with a shortest live sequence that the second state does not
+  -- allow, of equally short ones the first
+  abbrev pub AtEnd : Kind → ℕ → ℕ → ℕ → List ℕ → Type 0
+  AtEnd Value p q v w = Smallest (alone (A.has p) (B.has q)) (Some v) × SampleSequence A p w
+  AtEnd Content p q v w = Smallest (A.has p) (Some v) × First (λ u. LiveSequence A p u × (allowed B q u ≡ false)) w
+
+  -- the value and the children's symbols at a node before the end: the least value, and a shortest live sequence that holds the symbol by
+  -- which the way goes on, of equally short ones the first
+  abbrev pub OnWay : ℕ → ℕ → ℕ → List ℕ → Type 0
+  OnWay p a v w = Smallest (A.has p) (Some v) × First (λ u. LiveSequence A p u × Holds a u) w
+
+  -- the symbol leads the two states to those of the listed pair
+  abbrev pub LeadsTo : ℕ → ℕ → Listed → Type 0
+  LeadsTo p q e = (A.next p e.symbol ≡ Some e.first) × (B.next q e.symbol ≡ Some e.second)
+
+  -- the tree is built along a way that leaves the pair (p, q): its listed pairs are led to by their symbols; the first child under the
+  -- next symbol goes on along the way, and all other children are samples
+  abbrev mutual
+    pub Built : Kind → ℕ → ℕ → List Listed → Tree → Type 0
+    Built k p q [] (node v cs) = AtEnd k p q v (word cs) × Samples A p cs
+    Built k p q (e ∷ way) (node v cs) = OnWay p e.symbol v (word cs) × LeadsTo p q e × GoesOn k p e way cs
+
+    -- the first child under the symbol goes on
+    pub GoesOn : Kind → ℕ → Listed → List Listed → Children → Type 0
+    GoesOn k p e way none = ⊥
+    GoesOn k p e way (child a t cs) = ((a ≡ e.symbol) × Built k e.first e.second way t × Samples A p cs) ⊎ ((a ≡ e.symbol → ⊥) × Samples A p (child a t none) × GoesOn k p e way cs)
+
+  -- the document of a list of pairs, for entry i broken in a kind: it is built along the way from the first entry, which is the pair (0, 0)
+  pub record DocumentOf (k : Kind) (es : List Listed) (i : ℕ) (way : List Listed) (t : Tree) : Type 0 where
+    pub first : Listed
+    pub listed : slice_get es 0 ≡ Some first
+    pub starts : (first.first ≡ 0) × (first.second ≡ 0)
+    pub leads : Way es i way
+    pub built : Built k 0 0 way t
+
+-- a document is accepted by the first automaton, and not by the second
+abbrev pub TellsApart : Type 0
+TellsApart = (A B : Automaton) (k : Kind) (es : List Listed) (i : ℕ) (way : List Listed) (t : Tree) → DocumentOf A B k es i way t → (accepts A 0 t ≡ true) × (accepts B 0 t ≡ false)
+
+-- there is one document and one way to it at most
+abbrev pub OneDocument : Type 0
+OneDocument = (A B : Automaton) (k : Kind) (es : List Listed) (i : ℕ) (v w : List Listed) (t u : Tree) → DocumentOf A B k es i v t → DocumentOf A B k es i w u → (v ≡ w) × (t ≡ u)

@@ -1,0 +1,57 @@
+-- Forks: nodes on the way before its end, where one child goes on and the others are samples; and the bytes around that child. Assumes
+-- nothing.
+use Rattle.std.specs.Prelude.{◌≡◌, ℕ, List, [], ◌∷◌, ◌++◌, length, Some}
+use Rattle.std.specs.List.{slice_get}
+use Rattle.codec.specs.Encoding.{children_bytes}
+use Rattle.codec.specs.Numbers.{number_bytes}
+use Rattle.codec.specs.Trees.{Tree, node, Children, none, child, word}
+use Rattle.schema.specs.Automata.{Automaton}
+use Rattle.search.specs.Watching.{Holds}
+use Rattle.compare.specs.declared.pairs.Listed.{Listed}
+use Rattle.compare.specs.declared.phase.Kind.{Kind}
+use Rattle.document.specs.Documents.{OnWay, LeadsTo, Built}
+use Rattle.document.specs.Samples.{Samples}
+
+-- children, and others after them
+abbrev pub followed_by : Children → Children → Children
+followed_by none ds = ds
+followed_by (child a t cs) ds = child a t (followed_by cs ds)
+
+module _ (A B : Automaton) where
+  -- a node from whose states p and q the way goes on to a listed pair: its value, and the children before and after the one that goes on,
+  -- which is the first under the pair's symbol
+  pub record Fork (p q : ℕ) (e : Listed) : Type 0 where
+    pub value : ℕ
+    pub before : Children
+    pub after : Children
+    pub on_way : OnWay A B p e.symbol value (word before ++ e.symbol ∷ word after)
+    pub leads : LeadsTo A B p q e
+    pub first : Holds e.symbol (word before) → ⊥
+    pub samples_before : Samples A p before
+    pub samples_after : Samples A p after
+
+  module _ {p q : ℕ} {e : Listed} (f : Fork p q e) where
+    -- the tree of a fork with the part that goes on
+    abbrev pub joined : Tree → Tree
+    joined part = node f.value (followed_by f.before (child e.symbol part f.after))
+
+    -- the bytes before the part's: value, child count, the children before, and the symbol
+    abbrev pub head : List ℕ
+    head = number_bytes f.value ++ (number_bytes (length (word f.before ++ e.symbol ∷ word f.after)) ++ (children_bytes f.before ++ number_bytes e.symbol))
+
+    -- the bytes after the part's: the children after
+    abbrev pub tail : List ℕ
+    tail = children_bytes f.after
+
+  -- a tree built along a way that goes on to the listed pair splits into a fork and the part built from there on
+  pub record Split (k : Kind) (p q : ℕ) (e : Listed) (way : List Listed) (t : Tree) : Type 0 where
+    pub fork : Fork p q e
+    pub part : Tree
+    pub built : Built A B k e.first e.second way part
+    pub whole : t ≡ joined fork part
+
+  -- the bytes before and after the part at an entry, where these are the entries from it along its parents: those around the parts of the
+  -- forks that it lies in
+  abbrev pub Surrounds : List Listed → List Listed → List ℕ → List ℕ → Type 0
+  Surrounds es [] before after = (before ≡ []) × (after ≡ [])
+  Surrounds es (e ∷ back) before after = (x : Listed) × (slice_get es e.parent ≡ Some x) × (f : Fork x.first x.second e) × (b a : List ℕ) × (before ≡ b ++ head f) × (after ≡ tail f ++ a) × Surrounds es back b a

@@ -1,0 +1,48 @@
+-- Climbing from a broken pair along the pairs that led to it: what is told of each node on the way, and what the climb leaves. Assumes nothing.
+use Rattle.std.specs.Prelude.{◌≡◌, ℕ, ◌+◌, ◌<◌, List, [], ◌∷◌, length, min, reverse, Some, None, Option}
+use Rattle.std.specs.List.{slice_get}
+use Rattle.codec.specs.declared.item.Level.{Level}
+use Rattle.codec.specs.Trees.{Tree, word}
+use Rattle.schema.specs.Automata.{Automaton}
+use Rattle.compare.specs.declared.pairs.Listed.{Listed}
+use Rattle.compare.specs.declared.phase.Kind.{Kind}
+use Rattle.document.specs.declared.climb.Step.{Step}
+use Rattle.document.specs.declared.level.Spot.{Spot}
+use Rattle.document.specs.declared.level.Spot.TheVariants.{Pair}
+use Rattle.document.specs.Documents.{Built, DocumentOf}
+use Rattle.document.specs.Forks.{Fork, head, tail}
+use Rattle.document.specs.Seeds.{needed}
+
+-- the level of the pair at a place of the list, behind which so many children follow at the node that it leaves
+abbrev pub mark : ℕ → ℕ → Level Spot
+mark i left = record { left = left; at = Pair i }
+
+-- the listed pair at i is led to by the listed pair x
+pub record LedFrom (es : List Listed) (i : ℕ) (e x : Listed) : Type 0 where
+  pub there : slice_get es i ≡ Some e
+  pub before : e.parent < i
+  pub parent : slice_get es e.parent ≡ Some x
+
+module _ (A B : Automaton) (es : List Listed) where
+  -- the levels of the pairs on a way that leaves the states p and q
+  abbrev pub Marked : ℕ → ℕ → List Listed → List (Level Spot) → Type 0
+  Marked p q [] levels = levels ≡ []
+  Marked p q (e ∷ way) [] = ⊥
+  Marked p q (e ∷ way) (l ∷ levels) = (i : ℕ) × (slice_get es i ≡ Some e) × (f : Fork A B p q e) × (l ≡ mark i (length (word f.after))) × Marked e.first e.second way levels
+
+  -- one step up, from the pair at i to the one that led to it: where that is, how many children follow the one that goes on, and the bytes of
+  -- the node but for that child's tree, 65,537 for more than 65,536; none, where no node goes on so
+  abbrev pub StepsUp : ℕ → Option Step → Type 0
+  StepsUp i (Some s) = (e x : Listed) × LedFrom es i e x × (f : Fork A B x.first x.second e) × (s.at ≡ e.parent) × (s.left ≡ length (word f.after)) × (s.size ≡ min (length (head A B f) + length (tail A B f)) 65537)
+  StepsUp i None = (e x : Listed) → LedFrom es i e x → Fork A B x.first x.second e → ⊥
+
+  -- the bytes needed for the tree that is built from the pair at i on, which is broken in a kind; none, where there is no such tree
+  abbrev pub EndsAt : Kind → ℕ → Option ℕ → Type 0
+  EndsAt k i (Some size) = (x : Listed) × (t : Tree) × (slice_get es i ≡ Some x) × Built A B k x.first x.second [] t × (size ≡ needed t)
+  EndsAt k i None = (x : Listed) (t : Tree) → slice_get es i ≡ Some x → Built A B k x.first x.second [] t → ⊥
+
+  -- a climb from the pair at i, which is broken in a kind, finds the bytes needed for the document, and leaves the levels of the way to it,
+  -- its last pair at the bottom; or none: there is no document
+  abbrev pub Climbed : Kind → ℕ → Option ℕ → List (Level Spot) → Type 0
+  Climbed k i (Some size) levels = (way : List Listed) × (t : Tree) × DocumentOf A B k es i way t × (size ≡ needed t) × (marks : List (Level Spot)) × Marked 0 0 way marks × (levels ≡ reverse marks)
+  Climbed k i None levels = (way : List Listed) (t : Tree) → DocumentOf A B k es i way t → ⊥
