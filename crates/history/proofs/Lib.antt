@@ -1,0 +1,9 @@
+pub mod Counting
+pub mod Effects
+pub mod Example
+pub mod Histories
+pub mod Holders
+pub mod Marked
+pub mod Transport
+pub mod Verdicts
+pub mod Writings

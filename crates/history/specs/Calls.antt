@@ -1,0 +1,189 @@
+-- The calls that handle an area, each with what was handed over and what came of it; lists of them; and the comparisons that they begin.
+-- Assumes nothing.
+use Rattle.std.specs.Prelude.{◌≡◌, ℕ, ◌+◌, ◌^◌, ◌<◌, Bool, true, false, cond, ◌&&◌, ◌||◌, List, [], ◌∷◌, Ok, Err, Result, ◌==◌}
+use Rattle.refusal.specs.declared.fault.Refusal.{Refusal}
+use Rattle.schema.specs.Automata.{Automaton}
+use Rattle.schema.specs.Tables.{Tables, automaton}
+use Rattle.compare.specs.declared.area.Area.{Area}
+use Rattle.compare.specs.declared.claim.Apart.{Apart}
+use Rattle.compare.specs.declared.claim.Comparing.{Comparing}
+use Rattle.compare.specs.declared.claim.Lease.{Lease}
+use Rattle.compare.specs.declared.claim.Numbers.{Numbers}
+use Rattle.compare.specs.declared.conclude.Concluded.{Concluded}
+use Rattle.compare.specs.declared.event.Event.TheVariants.{Take, Oust}
+use Rattle.compare.specs.Beginning.{Beginning}
+use Rattle.compare.specs.Concluding.{Conclusion, GivingUp}
+use Rattle.compare.specs.Stepping.{Stepping}
+use Rattle.compare.specs.Trailing.{Trailing}
+use Rattle.document.specs.Writing.{Documenting}
+
+-- two schemas as they are handed over: their tables, and their domains as sets of values
+pub record Handed : Type 0 where
+  pub first : Tables
+  pub second : Tables
+  pub first_sets : List (ℕ → Bool)
+  pub second_sets : List (ℕ → Bool)
+
+-- the automaton of the first schema, and of the second
+abbrev pub first_of : Handed → Automaton
+first_of h = automaton h.first h.first_sets
+
+abbrev pub second_of : Handed → Automaton
+second_of h = automaton h.second h.second_sets
+
+-- the domains are, place by place, the same sets of values
+abbrev pub SameSets : List (ℕ → Bool) → List (ℕ → Bool) → Type 0
+SameSets [] [] = Unit {0}
+SameSets [] (t ∷ ts) = ⊥
+SameSets (s ∷ ss) [] = ⊥
+SameSets (s ∷ ss) (t ∷ ts) = ((v : ℕ) → v < 2 ^ 32 → s v ≡ t v) × SameSets ss ts
+
+-- the same two schemas: equal tables, and the same sets
+pub record Same (h g : Handed) : Type 0 where
+  pub first : h.first ≡ g.first
+  pub second : h.second ≡ g.second
+  pub first_sets : SameSets h.first_sets g.first_sets
+  pub second_sets : SameSets h.second_sets g.second_sets
+
+-- a call, with what was handed over, what was answered, and what an output holds before and after. A claim is handed over itself, or its
+-- two numbers are told; a step is told how many pairs; scratch is lent in so many row pairs, and levels
+pub data Call : Type 0 where
+  take_up : Handed → Result (Lease Comparing) Refusal → Call
+  oust : Handed → Result (Lease Comparing) Refusal → Call
+  step : Numbers → Handed → ℕ → ℕ → Result (ℕ × ℕ) Refusal → Call
+  conclude : Lease Comparing → Result Concluded (Refusal × Lease Comparing) → Call
+  trail : Lease Apart → List ℕ → Result (ℕ × Lease Apart) (Refusal × Lease Apart) → List ℕ → Call
+  document : Numbers → Handed → ℕ → ℕ → List ℕ → Result ℕ Refusal → List ℕ → Call
+  give_up : Lease Comparing → Result ℕ (Refusal × Lease Comparing) → Call
+  give_up_apart : Lease Apart → Result ℕ (Refusal × Lease Apart) → Call
+
+-- what the call does with an area: just what the contract of the call says
+abbrev pub Does : Call → Area → Area → Type 0
+Does (take_up h r) a a' = Beginning Take h.first h.second h.first_sets a r a'
+Does (oust h r) a a' = Beginning Oust h.first h.second h.first_sets a r a'
+Does (step n h steps slots r) a a' = Stepping h.first h.second h.first_sets h.second_sets n steps slots a r a'
+Does (conclude c r) a a' = Conclusion a c r a'
+Does (trail c o r o') a a' = Trailing a c o r o' × (a' ≡ a)
+Does (document n h slots levels o r o') a a' = Documenting h.first h.second h.first_sets h.second_sets n slots levels a o r o' × (a' ≡ a)
+Does (give_up c r) a a' = GivingUp a c r a'
+Does (give_up_apart c r) a a' = GivingUp a c r a'
+
+-- a list of calls, each taking over the area as those before left it
+abbrev pub Runs : List Call → Area → Area → Type 0
+Runs [] a a' = a' ≡ a
+Runs (c ∷ cs) a a' = (m : Area) × Does c a m × Runs cs m a'
+
+-- the two numbers are these
+abbrev pub are : Numbers → Numbers → Bool
+are n m = m.area == n.area && m.serial == n.serial
+
+-- the call is an accepted take or oust: it begins a comparison
+abbrev pub is_beginning : Call → Bool
+is_beginning (take_up h (Ok c)) = true
+is_beginning (take_up h (Err e)) = false
+is_beginning (oust h (Ok c)) = true
+is_beginning (oust h (Err e)) = false
+is_beginning (step m h steps slots r) = false
+is_beginning (conclude c r) = false
+is_beginning (trail c o r o') = false
+is_beginning (document m h slots levels o r o') = false
+is_beginning (give_up c r) = false
+is_beginning (give_up_apart c r) = false
+
+-- the call begins a comparison of these schemas, and its claim has these numbers
+abbrev pub Starts : Call → Handed → Numbers → Type 0
+Starts (take_up h (Ok c)) g n = (g ≡ h) × (n ≡ c.numbers)
+Starts (take_up h (Err e)) g n = ⊥
+Starts (oust h (Ok c)) g n = (g ≡ h) × (n ≡ c.numbers)
+Starts (oust h (Err e)) g n = ⊥
+Starts (step m h steps slots r) g n = ⊥
+Starts (conclude c r) g n = ⊥
+Starts (trail c o r o') g n = ⊥
+Starts (document m h slots levels o r o') g n = ⊥
+Starts (give_up c r) g n = ⊥
+Starts (give_up_apart c r) g n = ⊥
+
+-- the call is made with the claim of these numbers, or told them
+abbrev pub is_made_with : Numbers → Call → Bool
+is_made_with n (take_up h r) = false
+is_made_with n (oust h r) = false
+is_made_with n (step m h steps slots r) = are n m
+is_made_with n (conclude c r) = are n c.numbers
+is_made_with n (trail c o r o') = are n c.numbers
+is_made_with n (document m h slots levels o r o') = are n m
+is_made_with n (give_up c r) = are n c.numbers
+is_made_with n (give_up_apart c r) = are n c.numbers
+
+-- the call is an accepted conclude
+abbrev pub is_conclusion : Call → Bool
+is_conclusion (take_up h r) = false
+is_conclusion (oust h r) = false
+is_conclusion (step m h steps slots r) = false
+is_conclusion (conclude c (Ok v)) = true
+is_conclusion (conclude c (Err e)) = false
+is_conclusion (trail c o r o') = false
+is_conclusion (document m h slots levels o r o') = false
+is_conclusion (give_up c r) = false
+is_conclusion (give_up_apart c r) = false
+
+-- the call is an accepted give up
+abbrev pub is_giving_up : Call → Bool
+is_giving_up (take_up h r) = false
+is_giving_up (oust h r) = false
+is_giving_up (step m h steps slots r) = false
+is_giving_up (conclude c r) = false
+is_giving_up (trail c o r o') = false
+is_giving_up (document m h slots levels o r o') = false
+is_giving_up (give_up c (Ok n)) = true
+is_giving_up (give_up c (Err e)) = false
+is_giving_up (give_up_apart c (Ok n)) = true
+is_giving_up (give_up_apart c (Err e)) = false
+
+-- some call of the list passes the test
+abbrev pub some : (Call → Bool) → List Call → Bool
+some test [] = false
+some test (c ∷ cs) = test c || some test cs
+
+-- how many steps the call grants: the number that it asks for, where it is an accepted step told these numbers
+abbrev pub granted_by : Numbers → Call → ℕ
+granted_by n (take_up h r) = 0
+granted_by n (oust h r) = 0
+granted_by n (step m h steps slots (Ok answer)) = cond (are n m) steps 0
+granted_by n (step m h steps slots (Err e)) = 0
+granted_by n (conclude c r) = 0
+granted_by n (trail c o r o') = 0
+granted_by n (document m h slots levels o r o') = 0
+granted_by n (give_up c r) = 0
+granted_by n (give_up_apart c r) = 0
+
+-- the steps granted, added up
+abbrev pub granted : Numbers → List Call → ℕ
+granted n [] = 0
+granted n (c ∷ cs) = granted_by n c + granted n cs
+
+-- an accepted step told these numbers was handed these schemas; nothing is said of other calls
+abbrev pub StepsOver : Numbers → Handed → Call → Type 0
+StepsOver n g (take_up h r) = Unit {0}
+StepsOver n g (oust h r) = Unit {0}
+StepsOver n g (step m h steps slots (Ok answer)) = are n m ≡ true → Same g h
+StepsOver n g (step m h steps slots (Err e)) = Unit {0}
+StepsOver n g (conclude c r) = Unit {0}
+StepsOver n g (trail c o r o') = Unit {0}
+StepsOver n g (document m h slots levels o r o') = Unit {0}
+StepsOver n g (give_up c r) = Unit {0}
+StepsOver n g (give_up_apart c r) = Unit {0}
+
+-- a comparison on an area: the calls before it, the call that began it, with its schemas and its claim's numbers, and the calls since
+pub record Comparison (a : Area) : Type 0 where
+  pub before : List Call
+  pub at : Area
+  pub reached : Runs before a at
+  pub call : Call
+  pub begun : Area
+  pub begins : Does call at begun
+  pub schemas : Handed
+  pub claim : Numbers
+  pub starts : Starts call schemas claim
+  pub since : List Call
+  pub now : Area
+  pub goes_on : Runs since begun now

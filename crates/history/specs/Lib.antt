@@ -1,0 +1,4 @@
+pub mod Calls
+pub mod Example
+pub mod Law
+pub mod Marked
