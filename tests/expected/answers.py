@@ -6,12 +6,14 @@ import sys
 
 import domains
 import refusals
+from desks import Desk
 from text import Trouble, aside, count, end, take
 from trees import Shelf
 
 
 def main():
     shelf = Shelf()
+    desk = Desk(shelf)
     questions = {
         "word": lambda words: refusals.word(count(words)),
         "make": domains.make,
@@ -22,6 +24,14 @@ def main():
         "check": shelf.check,
         "live": shelf.live,
         "trim": shelf.trim,
+        "open": desk.open,
+        "take": desk.take,
+        "oust": desk.oust,
+        "step": desk.step,
+        "conclude": desk.conclude,
+        "trail": desk.trail,
+        "document": desk.document,
+        "giveup": desk.give_up,
     }
 
     def answer(line):

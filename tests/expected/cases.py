@@ -4,6 +4,8 @@
 """
 import random
 
+import compares_cases
+import documents_cases
 import domains_cases
 import live_cases
 import trees_cases
@@ -21,6 +23,12 @@ def main():
         print(line)
     print()
     for line in trim_cases.lines(random.Random(33)):
+        print(line)
+    print()
+    for line in compares_cases.lines(random.Random(4096)):
+        print(line)
+    print()
+    for line in documents_cases.lines(random.Random(4160)):
         print(line)
 
 

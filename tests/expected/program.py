@@ -5,6 +5,8 @@
 import sys
 from pathlib import Path
 
+from compares import MOST_STEPS, ROW_PAIRS, Area, told
+from documents import LEVELS as DOCUMENT_LEVELS, LONGEST, document
 from domains import KINDS, MIDDLE, read
 from schemas import Schema
 from text import Trouble, aside, end, joined, number, parts, table, take
@@ -73,9 +75,80 @@ def reduced(kind, words):
     return f"states {schema.states} to {result.states}, rows {schema.rows} to {result.rows}: {counts} {tables}"
 
 
+def book_schema(words):
+    """The schema of the words, all of them."""
+    schema = Schema(KINDS["book"], words)
+    end(words)
+    return schema
+
+
+def answered(call, *arguments):
+    """What a call answers, or the refusal."""
+    try:
+        return call(*arguments)
+    except Trouble as trouble:
+        return trouble
+
+
+class Ousting:
+    """The one area, the schemas in force, and the calls of a line with their answers."""
+
+    def __init__(self):
+        self.area, self.schemas, self.calls = Area(1), {"book": None, "engine": None}, []
+
+    def line(self, kind, words):
+        if kind in self.schemas:
+            self.schemas[kind] = None
+            self.schemas[kind] = book_schema(words)
+            return "in force"
+        if kind != "oust" or None in self.schemas.values():
+            raise Trouble(f"unreadable {kind}")
+        self.calls = ["area 1"]
+        self.compare(self.schemas["book"], self.schemas["engine"], book_schema(words))
+        return "\n  ".join(self.calls)
+
+    def compare(self, book, engine, other):
+        first = self.area.begin(book, engine, False)
+        self.calls.append(f"take: {told(first)}")
+        self.step(first, book, engine, 1)
+        try:
+            second = self.area.begin(book, other, True)
+        except Trouble:
+            self.area.give_up(first)
+            raise
+        self.calls.append(f"oust: {told(second)}")
+        self.step(first, book, engine, 1)
+        self.conclude(first, book, engine)
+        self.step(second, book, other, MOST_STEPS)
+        self.conclude(second, book, other)
+
+    def step(self, claim, book, engine, steps):
+        self.calls.append(f"step, {told(claim)}: {answered(self.area.step, claim, book, engine, steps, ROW_PAIRS)}")
+
+    def document(self, claim, book, engine):
+        """Asks for the document, and checks it against both schemas."""
+        data = document(self.area, claim, book, engine, ROW_PAIRS, DOCUMENT_LEVELS, LONGEST)
+        self.calls.append(f"document, {told(claim)}: {joined(data)}")
+        for name, schema in (("book", book), ("engine", engine)):
+            self.calls.append(f"check, {name}: {checked(schema, data, DOCUMENT_LEVELS)}")
+
+    def conclude(self, claim, book, engine):
+        """Concludes, asks for the trail and the document where it is apart, and gives up what is left."""
+        try:
+            verdict, apart = self.area.conclude(claim)
+        except Trouble as trouble:
+            verdict, apart = trouble, None
+        self.calls.append(f"conclude, {told(claim)}: {verdict}")
+        if apart:
+            self.calls.append(f"trail, {told(claim)}: {joined(self.area.trail(claim, MOST_STEPS))}")
+            self.document(claim, book, engine)
+        if apart is not False:
+            self.calls.append(f"give up, {told(claim)}: {self.area.give_up(claim)}")
+
+
 def main():
     folder = Path(sys.argv[1])
-    tasks = (("domains.txt", lacking), ("trees.txt", Trees().line), ("live.txt", split), ("trim.txt", reduced))
+    tasks = (("domains.txt", lacking), ("trees.txt", Trees().line), ("live.txt", split), ("trim.txt", reduced), ("compare.txt", Ousting().line))
     for file, task in tasks:
         print(file)
         for place, line in enumerate((folder / file).read_text().splitlines(), 1):

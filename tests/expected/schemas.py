@@ -14,6 +14,7 @@ class Schema:
     """Counts, tables and domains, whether they fit together or not."""
 
     def __init__(self, kind, words):
+        self.kind = kind
         self.symbols, self.states, self.rows = count(words), count(words), count(words)
         self.transitions, self.state_table, self.row_table = table(words), table(words), table(words)
         self.domains = [read_domain(kind, words) for _ in range(count(words))]

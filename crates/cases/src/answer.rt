@@ -1,8 +1,10 @@
 //! What a case comes to, and how it is printed.
+use crate::reply::{Reply, left};
 use api::Refusal;
 use notation::bytes::Listed;
 use notation::outputs::{Counts, Outputs};
 use notation::states::States;
+use notation::truths::Truth;
 use std::fmt;
 
 /// The answer to a case.
@@ -24,6 +26,8 @@ pub enum Answer {
     Trimmed(Counts, Outputs),
     /// Why a schema was not trimmed, and whether the outputs are as they were.
     Untrimmed { refusal: Refusal, as_found: bool },
+    /// What a call on an area came to.
+    Called(Reply),
 }
 
 /// Prints the three outputs, each whole.
@@ -40,8 +44,7 @@ impl fmt::Display for Answer {
             Answer::Word(letters) => write!(f, "{letters}"),
             Answer::Taken => write!(f, "taken"),
             Answer::Read => write!(f, "read"),
-            Answer::Truth(true) => write!(f, "yes"),
-            Answer::Truth(false) => write!(f, "no"),
+            Answer::Truth(truth) => write!(f, "{}", Truth(*truth)),
             Answer::Value(Some(value)) => write!(f, "{value}"),
             Answer::Value(None) => write!(f, "none"),
             Answer::States(0) => write!(f, "no states"),
@@ -51,9 +54,9 @@ impl fmt::Display for Answer {
                 print_outputs(outputs, f)
             }
             Answer::Untrimmed { refusal, as_found } => {
-                let left = if *as_found { "as found" } else { "changed" };
-                write!(f, "refused {refusal}; outputs {left}")
+                write!(f, "refused {refusal}; outputs {}", left(*as_found))
             }
+            Answer::Called(reply) => write!(f, "{reply}"),
         }
     }
 }

@@ -2,7 +2,9 @@
 #![tactic(auto)]
 
 use crate::answer::Answer;
+use crate::compares::{Begin, Desk};
 use crate::domains::Question;
+use crate::reply::Reply;
 use crate::trees::{Check, Live, Shelf};
 use crate::trims::Trim;
 use notation::trouble::Trouble;
@@ -11,13 +13,43 @@ use std::alloc::Global;
 use std::io::{BufRead, BufReader};
 
 mod answer;
+mod claims;
+mod compares;
+mod documents;
 mod domains;
 mod refusals;
+mod reply;
 mod trees;
 mod trims;
 
-/// What a case comes to. Its first word says what is asked, the others of what. A schema that it names goes onto the shelf.
-fn answered<'a>(heap: Global, shelf: &mut Shelf, case: &'a str) -> Result<Answer, Trouble<'a>> {
+/// What a call on an area comes to, by the word that says which.
+fn called<'a>(
+    shelf: &Shelf,
+    desk: &mut Desk,
+    question: &'a str,
+    words: &mut Words<'a>,
+) -> Result<Reply, Trouble<'a>> {
+    match question {
+        "open" => desk.open(words),
+        "take" => desk.begin(shelf, Begin::Take, words),
+        "oust" => desk.begin(shelf, Begin::Oust, words),
+        "step" => desk.step(shelf, words),
+        "conclude" => desk.conclude(words),
+        "trail" => desk.trail(words),
+        "document" => desk.document(shelf, words),
+        "giveup" => desk.give_up(words),
+        _ => Err(Trouble::Unreadable(question)),
+    }
+}
+
+/// What a case comes to. Its first word says what is asked, the others of what. A schema that it names goes onto the shelf, an area and a
+/// claim onto the desk.
+fn answered<'a>(
+    heap: Global,
+    shelf: &mut Shelf,
+    desk: &mut Desk,
+    case: &'a str,
+) -> Result<Answer, Trouble<'a>> {
     let mut words = Words::new(heap, case);
     let question = words.word()?;
     match question {
@@ -30,12 +62,12 @@ fn answered<'a>(heap: Global, shelf: &mut Shelf, case: &'a str) -> Result<Answer
         "check" => shelf.ask::<Check>(&mut words),
         "live" => shelf.ask::<Live>(&mut words),
         "trim" => shelf.ask::<Trim>(&mut words),
-        _ => Err(Trouble::Unreadable(question)),
+        _ => Ok(Answer::Called(called(shelf, desk, question, &mut words)?)),
     }
 }
 
 /// Prints a line for each line of the input: the case with what it comes to, and an aside as it stands.
-fn run(rt: &HostRuntime) -> anyhow::Result<()> {
+fn answer_all(rt: &HostRuntime, desk: &mut Desk) -> anyhow::Result<()> {
     let mut shelf = Shelf::new(rt.alloc());
     for line in BufReader::new(rt.alloc(), rt.stdin())?.lines(rt.alloc()) {
         let line = line?;
@@ -44,12 +76,20 @@ fn run(rt: &HostRuntime) -> anyhow::Result<()> {
             println!(rt; "{case}")?;
             continue;
         }
-        match answered(rt.alloc(), &mut shelf, case) {
+        match answered(rt.alloc(), &mut shelf, desk, case) {
             Ok(answer) => println!(rt; "{case} -> {answer}")?,
             Err(trouble) => println!(rt; "{case} -> {trouble}")?,
         }
     }
     Ok(())
+}
+
+/// Answers every case. The claims that are left are spent, however that went.
+fn run(rt: &HostRuntime) -> anyhow::Result<()> {
+    let mut desk = Desk::new(rt.alloc());
+    let answered = answer_all(rt, &mut desk);
+    desk.clear();
+    answered
 }
 
 fn main(rt: HostRuntime) -> anyhow::Result<()> {

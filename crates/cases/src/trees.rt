@@ -2,7 +2,7 @@
 //! `check NAME BYTES LEVELS` and `live NAME`.
 use crate::answer::Answer;
 use crate::domains::Book;
-use api::{Coverage, Cursor, Domain, Keywords, Level, Refusal};
+use api::{Area, Coverage, Cursor, Domain, Keywords, Level, Refusal, Schema};
 use notation::levels::levels;
 use notation::schemas::Tables;
 use notation::trouble::Trouble;
@@ -17,6 +17,20 @@ pub trait Asked: Drop {
 
     /// The answer for the schema of the tables.
     fn answer<D: Domain>(self, tables: &Tables<D>) -> Result<Answer, Refusal>;
+}
+
+/// What is asked of an area and two schemas, whatever the kind of their domains.
+pub trait AskedOfTwo {
+    /// What it gives where it is not refused.
+    type Outcome;
+
+    /// The answer for two schemas.
+    fn put<D: Domain>(
+        self,
+        area: &mut Area,
+        first: &Schema<D>,
+        second: &Schema<D>,
+    ) -> Result<Self::Outcome, Refusal>;
 }
 
 /// The tables of a schema of one of the kinds.
@@ -49,6 +63,39 @@ impl Kinded {
     }
 }
 
+/// Two schemas of one kind.
+#[derive(Clone, Copy)]
+pub enum Two<'a> {
+    Keywords(&'a Tables<Keywords>, &'a Tables<Keywords>),
+    Coverage(&'a Tables<Coverage>, &'a Tables<Coverage>),
+    Book(&'a Tables<Book>, &'a Tables<Book>),
+}
+
+impl<'a> Two<'a> {
+    /// The two, where they are of one kind.
+    fn of(first: &'a Kinded, second: &'a Kinded) -> Option<Two<'a>> {
+        match (first, second) {
+            (Kinded::Keywords(first), Kinded::Keywords(second)) => {
+                Some(Two::Keywords(first, second))
+            }
+            (Kinded::Coverage(first), Kinded::Coverage(second)) => {
+                Some(Two::Coverage(first, second))
+            }
+            (Kinded::Book(first), Kinded::Book(second)) => Some(Two::Book(first, second)),
+            _ => None,
+        }
+    }
+
+    /// The answer to what is asked of an area and the two.
+    pub fn put<A: AskedOfTwo>(self, asked: A, area: &mut Area) -> Result<A::Outcome, Refusal> {
+        match self {
+            Two::Keywords(first, second) => asked.put(area, &first.schema(), &second.schema()),
+            Two::Coverage(first, second) => asked.put(area, &first.schema(), &second.schema()),
+            Two::Book(first, second) => asked.put(area, &first.schema(), &second.schema()),
+        }
+    }
+}
+
 /// The schemas that the cases so far named, each the last of its name.
 #[derive(Drop)]
 pub struct Shelf {
@@ -72,10 +119,23 @@ impl Shelf {
         Ok(Answer::Read)
     }
 
-    /// What the words behind a name ask of the schema that was last given the name.
-    pub fn ask<'a, A: Asked>(&self, words: &mut Words<'a>) -> Result<Answer, Trouble<'a>> {
+    /// The schema that was last given the name of the next word, with the name.
+    fn named<'a>(&self, words: &mut Words<'a>) -> Result<(&'a str, &Kinded), Trouble<'a>> {
         let name = words.word()?;
         let tables = self.schemas.get(name).ok_or(Trouble::Unreadable(name))?;
+        Ok((name, tables))
+    }
+
+    /// The two schemas that the next words name. A second one of another kind is unreadable.
+    pub fn two<'a>(&self, words: &mut Words<'a>) -> Result<Two<'_>, Trouble<'a>> {
+        let (_, first) = self.named(words)?;
+        let (name, second) = self.named(words)?;
+        Two::of(first, second).ok_or(Trouble::Unreadable(name))
+    }
+
+    /// What the words behind a name ask of the schema that was last given the name.
+    pub fn ask<'a, A: Asked>(&self, words: &mut Words<'a>) -> Result<Answer, Trouble<'a>> {
+        let (_, tables) = self.named(words)?;
         let asked = A::read(words)?;
         words.end()?;
         Ok(tables.answer(asked)?)

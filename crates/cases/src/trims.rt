@@ -9,10 +9,10 @@ use notation::trouble::Trouble;
 use notation::words::Words;
 
 /// What each output is filled with.
-const FILLING: u8 = 170;
+pub const FILLING: u8 = 170;
 
 /// Whether nothing was written to an output.
-fn is_as_found(output: &[u8]) -> bool {
+pub fn is_as_found(output: &[u8]) -> bool {
     output.iter().all(|byte| *byte == FILLING)
 }
 

@@ -3,12 +3,17 @@
 
 use crate::domains::Domains;
 use crate::live::Live;
+use crate::ousting::Ousting;
 use crate::trees::Trees;
 use crate::trimming::Trim;
 
+mod answers;
+mod claims;
 mod domains;
 mod job;
 mod live;
+mod ousting;
+mod sides;
 mod trees;
 mod trimming;
 
@@ -24,12 +29,16 @@ const LIVE: &'static str = "live.txt";
 /// The job on trimming: a line for each schema with the symbols that it is trimmed to.
 const TRIM: &'static str = "trim.txt";
 
+/// The job on comparing: a line for each schema of a book or an engine, and several for each engine that a comparison is ousted for.
+const COMPARE: &'static str = "compare.txt";
+
 /// Does each task in turn.
 fn run(rt: &HostRuntime) -> anyhow::Result<()> {
     job::run(rt, &mut Domains, DOMAINS)?;
     job::run(rt, &mut Trees::new(), TREES)?;
     job::run(rt, &mut Live, LIVE)?;
     job::run(rt, &mut Trim, TRIM)?;
+    job::run(rt, &mut Ousting::new(), COMPARE)?;
     Ok(())
 }
 

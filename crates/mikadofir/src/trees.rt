@@ -4,6 +4,7 @@ use crate::job::Task;
 use notation::levels::levels;
 use notation::schemas::Tables;
 use notation::trouble::Trouble;
+use notation::truths::Truth;
 use notation::words::Words;
 use std::fmt;
 
@@ -16,15 +17,14 @@ pub enum Outcome {
     /// The schema is in force.
     InForce,
     /// Whether the schema accepts the tree.
-    Accepted(bool),
+    Accepted(Truth),
 }
 
 impl fmt::Display for Outcome {
     fn fmt<W: fmt::Write>(&self, f: &mut fmt::Formatter<W>) -> fmt::Result {
         match self {
             Outcome::InForce => write!(f, "in force"),
-            Outcome::Accepted(true) => write!(f, "yes"),
-            Outcome::Accepted(false) => write!(f, "no"),
+            Outcome::Accepted(truth) => write!(f, "{truth}"),
         }
     }
 }
@@ -72,7 +72,7 @@ impl Task for Trees {
                 self.enforce(words)?;
                 Ok(Outcome::InForce)
             }
-            ("tree", Some(tables)) => Ok(Outcome::Accepted(accepted(tables, words)?)),
+            ("tree", Some(tables)) => Ok(Outcome::Accepted(Truth(accepted(tables, words)?))),
             _ => Err(Trouble::Unreadable(kind)),
         }
     }
