@@ -23,7 +23,7 @@ abbrev mutual
   ProperAll s none = Unit {0}
   ProperAll s (child a t cs) = (a < s) × Proper s t × ProperAll s cs
 
--- the bytes begin with the encoding of the tree, which is proper and of fewer levels than there are; the rest follows
+-- the bytes begin with the encoding of the tree, which is proper and has at most as many levels of nodes as there are; the rest follows
 pub record Encodes (s levels : ℕ) (t : Tree) (bs rest : List ℕ) : Type 0 where
   pub bytes : bs ≡ tree_bytes t ++ rest
   pub proper : Proper s t

@@ -98,7 +98,7 @@ impl Domain for Coverage {
     ghost holds = { has_letter };
 
     fn has(&self, value: u32) -> bool {
-        // a loop and no `any`: the form is a rule of the project
+        // a loop and no `any`: each of the three answers goes over the ranges in use, in one form
         for range in self.used() {
             if range.has(value) {
                 return true;

@@ -14,3 +14,4 @@ pub mod Searches
 pub mod Sizes
 pub mod Small
 pub mod Sound
+pub mod Unique

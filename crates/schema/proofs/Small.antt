@@ -1,8 +1,8 @@
 -- The small schemas, tried. Assumes nothing.
-use Rattle.std.proofs.Common.{◌≡◌, ℕ, ◌+◌, ◌≤◌, true, false, ◌&&◌, List, [], ◌∷◌, ◌++◌, refl, arith}
+use Rattle.std.proofs.Common.{◌≡◌, ℕ, ◌+◌, ◌≤◌, true, ◌&&◌, List, [], ◌∷◌, ◌++◌, refl, arith}
 use Rattle.std.proofs.lemmas.Bool.{and_parts, false≢true}
 use Rattle.std.proofs.Math.Nat.{le-max_left}
-use Rattle.codec.specs.Trees.{Tree, node, Children, none, child, word, height, heights}
+use Rattle.codec.specs.Trees.{Tree, node, none, child, height, heights}
 use Rattle.schema.specs.Automata.{present, row_runs, has_next, allowed, accepts, accepts_all}
 use Rattle.schema.specs.Examples.{book, zero_and_zero, alone, above_one, SmallSchemas}
 use Rattle.schema.specs.Tables.{automaton}

@@ -4,6 +4,7 @@ pub mod Bindings
 pub mod Examples
 pub mod Faults
 pub mod Live
+pub mod Outcome
 pub mod Permitted
 pub mod Rows
 pub mod Tables

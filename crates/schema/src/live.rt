@@ -1,12 +1,12 @@
 //! Which states accept a finite tree, and their ranks. A round finds those that need only states found before it.
-ghost use Rattle.std.specs.Prelude.{◌≡◌, ℕ, ◌<◌, IfOk, if◌then◌else◌, Some, Decides, MatchResult, slice_get};
+ghost use Rattle.std.specs.Prelude.{◌≡◌, ℕ, ◌<◌, IfOk, if◌then◌else◌, Some, Decides, slice_get};
 ghost use Rattle.domain.specs.Kinds.{bit};
 ghost use Rattle.domain.specs.Sets.{Smallest};
 ghost use Rattle.schema.specs.Examples.{SmallSchemas};
-ghost use Rattle.schema.specs.Faults.{table_fault};
 ghost use Rattle.schema.specs.Live.{Found, New, Ranked, LiveMask, RankMask};
+ghost use Rattle.schema.specs.Outcome.{LiveAnswer, OneLiveAnswer};
 ghost use Rattle.schema.specs.Permitted.{automaton_over};
-ghost use Rattle.schema.specs.Tables.{tables, automaton_of};
+ghost use Rattle.schema.specs.Tables.{tables, sets, automaton_of};
 
 use crate::sets::{gather, has_member};
 use crate::tables::{STATES, Schema};
@@ -115,8 +115,10 @@ impl<D: Domain> Tested<'_, D> {
 }
 
 /// The states that accept a finite tree, as a mask: bit i for state i, and no bit past the states; or the refusal of the tables.
+#[tactic(auto, using(crate::proofs::Small::small_schemas, crate::proofs::Unique::one_live_answer))]
 pub fn live<D: Domain>(schema: &Schema<D>) -> Result<u64, Refusal>
-    ensures answer { MatchResult result (LiveMask (automaton_of D.Domain.holds schema.now) schema.now.states) (λ e. table_fault (tables schema.now) ≡ Some e) }
+    ensures answer { LiveAnswer (tables schema.now) (sets D.Domain.holds schema.now) result }
+    ensures one { OneLiveAnswer }
     ensures ranks { IfOk result (RankMask (automaton_of D.Domain.holds schema.now) schema.now.states) }
     ensures examples { SmallSchemas }
 {

@@ -70,7 +70,7 @@ impl<D: Domain, W: Watcher> Question<'_, '_, D, W> {
             return bottom;
         }
         let mut found = None;
-        // two loops left by a label, a rule of the project; the pile grows while the outer one goes over it
+        // Two loops left by a label: the first goal ends both. The pile grows while the outer one goes over it.
         'search: for cursor in 0..ROW_PAIRS {
             let Some(pair) = pile.read(cursor) else {
                 break 'search;

@@ -12,4 +12,5 @@ pub mod Small
 pub mod Sound
 pub mod Steps
 pub mod Sums
+pub mod Unique
 pub mod Written

@@ -1,5 +1,5 @@
 -- Trimming, tried on small schemas. Assumes nothing.
-use Rattle.std.specs.Prelude.{◌≡◌, ℕ, Bool, true, false, [], ◌∷◌, ◌==◌, ◌||◌}
+use Rattle.std.specs.Prelude.{◌≡◌, true, false, [], ◌∷◌, ◌==◌, ◌||◌}
 use Rattle.refusal.specs.declared.fault.Fault.TheVariants.{Nothing}
 use Rattle.schema.specs.Examples.{no_child, any_of_first, book, zero_and_zero}
 use Rattle.schema.specs.Tables.{Tables}

@@ -61,3 +61,8 @@ module _ (T : Tables) (domains : List (ℕ → Bool)) (permitted : ℕ → Bool)
     abbrev pub Outcome : Result (ℕ × ℕ) Refusal → Outputs → Type 0
     Outcome (Ok counts) out' = Answered counts out'
     Outcome (Err e) out' = ((table_fault T ≡ Some e) ⊎ (NothingLeft e ⊎ NoRoom e)) × (out' ≡ out)
+
+-- trimming has one answer, and leaves one thing in each output
+unfoldable pub OneTrimming : Type 0
+OneTrimming =
+    (T : Tables) (domains : List (ℕ → Bool)) (permitted : ℕ → Bool) (out : Outputs) (r s : Result (ℕ × ℕ) Refusal) (one two : Outputs) → Outcome T domains permitted out r one → Outcome T domains permitted out s two → (r ≡ s) × (one ≡ two)

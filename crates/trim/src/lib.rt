@@ -6,7 +6,7 @@ ghost use Rattle.domain.specs.Kinds.{bit};
 ghost use Rattle.schema.specs.Tables.{tables, sets};
 ghost use Rattle.trim.specs.Examples.{SmallTrims};
 ghost use Rattle.trim.specs.Law.{TrimmingLaw};
-ghost use Rattle.trim.specs.Outcome.{outputs, Outcome};
+ghost use Rattle.trim.specs.Outcome.{outputs, Outcome, OneTrimming};
 
 use crate::tables::Outputs;
 use crate::trimming::Trimming;
@@ -21,6 +21,7 @@ mod trimming;
 
 /// Writes the schema over the permitted symbols, bit i for symbol i, at the fronts of the three outputs, and gives its state count and
 /// row count; or the refusal of the tables, `nothing` or `room`, and then the outputs are as they were.
+#[tactic(auto, using(crate::proofs::Law::trimming_law, crate::proofs::Small::small_trims, crate::proofs::Unique::one_trimming))]
 pub fn trim<D: Domain>(
     schema: &Schema<D>,
     permitted: u32,
@@ -29,6 +30,7 @@ pub fn trim<D: Domain>(
     rows: &mut [u8],
 ) -> Result<(usize, usize), Refusal>
     ensures outcome { Outcome (tables schema.now) (sets D.Domain.holds schema.now) (bit permitted) (outputs transitions.old states.old rows.old) result (outputs transitions.new states.new rows.new) }
+    ensures one { OneTrimming }
     ensures law { TrimmingLaw }
     ensures examples { SmallTrims }
 {
