@@ -2,6 +2,7 @@ pub mod Allowing
 pub mod Beginnings
 pub mod Closed
 pub mod Crowding
+pub mod Deciding
 pub mod Gaps
 pub mod Goings
 pub mod Grown

@@ -22,12 +22,6 @@ found_early [] ps e is = absurd (none-some _ is)
 found_early (Some x ∷ os) ps e is = is
 found_early (None ∷ os) ps e is = found_early os ps e is
 
--- where it finds nothing, the other part decides
-pub found_late : (os ps : List (Option Refusal)) → first_of os ≡ None → first_of (os ++ ps) ≡ first_of ps
-found_late [] ps none = refl
-found_late (Some x ∷ os) ps none = absurd (some_not_none none)
-found_late (None ∷ os) ps none = found_late os ps none
-
 -- tests that are asked in one of them are asked in its place; what is asked last there finds nothing where the one before it finds nothing
 gather : (a b c d p : Option Refusal) → (c ≡ None → p ≡ None) → first_of (a ∷ first_of (b ∷ c ∷ p ∷ []) ∷ d ∷ []) ≡ first_of (a ∷ b ∷ c ∷ d ∷ [])
 gather (Some x) b c d p so = refl
@@ -56,7 +50,3 @@ module _ (w : Work) (T U : Tables) (claim : Numbers) where
   -- what the claim's holder is refused is refused of a document
   pub write_refused : (slots : ℕ) (e : Refusal) → held_kept_from w T U claim ≡ Some e → write_kept_from w T U claim slots ≡ Some e
   write_refused slots e is = found_early tests (phase_refuses w Write ∷ short_scratch slots ∷ []) e (sym held_tests ∙ is)
-
-  -- and else the phase and the slots decide
-  pub write_left : (slots : ℕ) → held_kept_from w T U claim ≡ None → write_kept_from w T U claim slots ≡ first_of (phase_refuses w Write ∷ short_scratch slots ∷ [])
-  write_left slots none = found_late tests (phase_refuses w Write ∷ short_scratch slots ∷ []) (sym held_tests ∙ none)

@@ -1,6 +1,7 @@
 pub mod Beginning
 pub mod Breaking
 pub mod Concluding
+pub mod Deciding
 pub mod Growing
 pub mod Listing
 pub mod Outcomes

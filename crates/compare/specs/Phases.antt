@@ -8,8 +8,9 @@ use Rattle.compare.specs.declared.phase.Phase.{Phase}
 use Rattle.compare.specs.declared.phase.Phase.TheVariants as phase
 use Rattle.compare.specs.declared.phase.Verdict.TheVariants as verdict
 
--- the table of phases by events: take begins on a free area alone, and oust on every one; a free area has no holder; a holder may give up at
--- any time, step until the verdict stands and after it to no effect, conclude a ready area, and write on one that is apart
+-- the table of phases by events: take begins on a free area alone, and oust on every one; a free area has no holder, so all else is refused
+-- there but giving a claim up, which changes nothing; a holder may give up at any time, step until the verdict stands and after it to no
+-- effect, conclude a ready area, and write on one that is apart
 abbrev pub decided : Phase → Event → Decision
 decided phase.Free Take = decision.Begin
 decided phase.Running Take = decision.Refuse Busy
@@ -29,7 +30,7 @@ decided phase.Free Write = decision.Refuse Ousted
 decided phase.Running Write = decision.Refuse Early
 decided (phase.Ready v) Write = decision.Refuse Early
 decided (phase.Apart k) Write = decision.Stay
-decided phase.Free GiveUp = decision.Refuse Ousted
+decided phase.Free GiveUp = decision.Stay
 decided phase.Running GiveUp = decision.Release
 decided (phase.Ready v) GiveUp = decision.Release
 decided (phase.Apart k) GiveUp = decision.Release

@@ -57,7 +57,7 @@ listed_to w es p = record { number = w.number; serial = w.serial; phase = p; sym
 
 module _ (A B : Automaton) where
   -- the pairs of next states of a pair under its live symbols are listed; it is at place i
-  pub record Goes_on (w : Work) (pair : Listed) (i : ℕ) (w' : Work) : Type 0 where
+  pub record GoesOn (w : Work) (pair : Listed) (i : ℕ) (w' : Work) : Type 0 where
     pub live : ℕ → Bool
     pub exact : (a : ℕ) → Decides (live a) (LiveSymbol A pair.first a)
     pub after : w' ≡ listed_to w (with_nexts A B live pair.first pair.second i w.symbols w.pairs) (going_on (i + 1) (with_nexts A B live pair.first pair.second i w.symbols w.pairs))

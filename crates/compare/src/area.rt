@@ -39,7 +39,7 @@ const START: Listed = Listed {
 };
 
 /// A free area with that number.
-// No method of the type: callers get the type and no maker of areas beside the public one.
+// No method of the type, nor is any other call that only our own crates may make: callers get the type with its methods.
 pub fn free_area(number: u32) -> Area
     ensures { said result ≡ free number 0 }
 {
@@ -53,20 +53,20 @@ pub fn free_area(number: u32) -> Area
     }
 }
 
-impl Area {
-    /// A refusal whose place is the area's serial.
-    pub fn refusal(&self, fault: Fault) -> Refusal
-        ensures { result ≡ record { fault = fault; place = self.now.serial } }
-    {
-        fault.at(self.serial as usize)
-    }
+/// A refusal whose place is the area's serial.
+pub fn refusal(area: &Area, fault: Fault) -> Refusal
+    ensures { result ≡ record { fault = fault; place = area.now.serial } }
+{
+    fault.at(area.serial as usize)
+}
 
+impl Area {
     /// Refuses what the phase refuses of an event.
     pub(crate) fn permits(&self, event: Event) -> Result<(), Refusal>
         ensures { Refuses (phase_refuses (said self.now) event) result }
     {
         match decide(self.phase, event) {
-            Decision::Refuse(fault) => Err(self.refusal(fault)),
+            Decision::Refuse(fault) => Err(refusal(self, fault)),
             Decision::Begin
             | Decision::Examine
             | Decision::Release
@@ -85,11 +85,11 @@ impl Area {
         ensures { Refuses (kept_from (said self.now) (tables first.now.measured.schema) (tables second.now.measured.schema) event) result }
     {
         if first.symbols() != second.symbols() {
-            return Err(self.refusal(Fault::Symbols));
+            return Err(refusal(self, Fault::Symbols));
         }
         self.permits(event)?;
         if self.serial == u32::MAX {
-            return Err(self.refusal(Fault::Worn));
+            return Err(refusal(self, Fault::Worn));
         }
         Ok(())
     }
@@ -129,10 +129,10 @@ impl Area {
         ensures { Refuses (claim_refusal (said self.now) claim event) result }
     {
         if claim.area != self.number {
-            return Err(self.refusal(Fault::Foreign));
+            return Err(refusal(self, Fault::Foreign));
         }
         if self.phase == Phase::Free || claim.serial != self.serial {
-            return Err(self.refusal(Fault::Ousted));
+            return Err(refusal(self, Fault::Ousted));
         }
         self.permits(event)
     }

@@ -19,7 +19,7 @@ pub struct Apart;
 /// A claim, and in its type what its comparison is at. It can't be let go before it is spent.
 pub struct Lease<S> {
     numbers: Numbers,
-    // a mark, since the rule is that the check refuses to let a claim go before it is spent
+    // a mark, by which the check refuses to let a claim go before it is spent
     spent: bool,
     at: PhantomData<S>,
 }

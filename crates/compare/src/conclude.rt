@@ -1,10 +1,11 @@
 //! Concluding a comparison, and giving one up.
 ghost use Rattle.compare.specs.Concluding.{Conclusion, GivingUp};
+ghost use Rattle.compare.specs.Deciding.{ConcludesAsDecided, ConclusionEarly, GivesUpAsDecided};
 ghost use Rattle.compare.specs.Growing.{ConcludesGrown, IncludedCarries, ApartTells};
 ghost use Rattle.compare.specs.Outcomes.{OneConclusion, OneGivingUp};
 ghost use Rattle.compare.specs.Strangers.{ConclusionOfStranger, GivingUpOfStranger};
 
-use crate::area::Area;
+use crate::area::{Area, refusal};
 use crate::claim::{ApartClaim, Claim, Lease};
 use crate::event::{Decision, Event, decide};
 use crate::phase::{Kind, Phase};
@@ -18,7 +19,7 @@ pub enum Concluded {
 
 /// Concludes the comparison of a ready area. Included spends the claim and frees the area, apart gives an apart claim for it. Or
 /// `foreign`, `ousted` or `early`, with the claim.
-#[tactic(auto, using(crate::proofs::Grown::concludes_grown, crate::proofs::Grown::included_carries, crate::proofs::Grown::apart_tells, crate::proofs::Strangers::conclusion_of_stranger, crate::proofs::Outcomes::one_conclusion))]
+#[tactic(auto, using(crate::proofs::Grown::concludes_grown, crate::proofs::Grown::included_carries, crate::proofs::Grown::apart_tells, crate::proofs::Strangers::conclusion_of_stranger, crate::proofs::Outcomes::one_conclusion, crate::proofs::Deciding::concludes_as_decided, crate::proofs::Deciding::conclusion_early))]
 pub fn conclude(area: &mut Area, claim: Claim) -> Result<Concluded, (Refusal, Claim)>
     ensures outcome { Conclusion area.old claim result area.new }
     ensures grown { ConcludesGrown }
@@ -26,6 +27,8 @@ pub fn conclude(area: &mut Area, claim: Claim) -> Result<Concluded, (Refusal, Cl
     ensures apart { ApartTells }
     ensures stranger { ConclusionOfStranger }
     ensures one { OneConclusion }
+    ensures table { ConcludesAsDecided }
+    ensures early { ConclusionEarly }
 {
     // no `?`: the claim goes back with the refusal
     if let Err(refusal) = area.permits_claim(claim.numbers(), Event::Conclude) {
@@ -46,16 +49,17 @@ pub fn conclude(area: &mut Area, claim: Claim) -> Result<Concluded, (Refusal, Cl
 }
 
 /// Gives a claim of either kind up. The holder's frees the area and answers 1, an ousted one's only answers 0. Or `foreign`, with the claim.
-// The answer stays a number: the product's rules fix 1 and 0.
-#[tactic(auto, using(crate::proofs::Strangers::giving_up_of_stranger, crate::proofs::Outcomes::one_giving_up))]
+// A number, as docs/area.md has it: 1 where this freed the area, and 0 where it did not.
+#[tactic(auto, using(crate::proofs::Strangers::giving_up_of_stranger, crate::proofs::Outcomes::one_giving_up, crate::proofs::Deciding::gives_up_as_decided))]
 pub fn give_up<S>(area: &mut Area, claim: Lease<S>) -> Result<u32, (Refusal, Lease<S>)>
     ensures outcome { GivingUp area.old claim result area.new }
     ensures stranger { GivingUpOfStranger S }
     ensures one { OneGivingUp S }
+    ensures table { GivesUpAsDecided S }
 {
     let numbers = claim.numbers();
     if numbers.area != area.number {
-        return Err((area.refusal(Fault::Foreign), claim));
+        return Err((refusal(area, Fault::Foreign), claim));
     }
     claim.spend();
     match decide(area.phase, Event::GiveUp) {
@@ -63,6 +67,9 @@ pub fn give_up<S>(area: &mut Area, claim: Lease<S>) -> Result<u32, (Refusal, Lea
             area.release();
             Ok(1)
         }
-        _ => Ok(0),
+        Decision::Release | Decision::Stay => Ok(0),
+        Decision::Begin | Decision::Examine | Decision::Part(_) | Decision::Refuse(_) => {
+            unreachable!()
+        }
     }
 }

@@ -5,7 +5,7 @@ ghost use Rattle.compare.specs.Phases.{decided};
 use crate::phase::{Kind, Phase, Verdict};
 use refusal::fault::Fault;
 
-/// What is asked of an area. All but take and oust are asked by the holder.
+/// What is asked of an area: take and oust by anyone, giving up with any claim of the area, and the rest by the holder.
 #[derive(Clone, Copy, Debug, PartialEq, Eq)]
 pub enum Event {
     Take,
@@ -41,6 +41,7 @@ pub fn decide(phase: Phase, event: Event) -> Decision
         (Phase::Free, Event::Take) => Decision::Begin,
         (_, Event::Take) => Decision::Refuse(Fault::Busy),
         (_, Event::Oust) => Decision::Begin,
+        (Phase::Free, Event::GiveUp) => Decision::Stay,
         (Phase::Free, _) => Decision::Refuse(Fault::Ousted),
         (_, Event::GiveUp) => Decision::Release,
         (Phase::Running, Event::Step) => Decision::Examine,

@@ -19,7 +19,7 @@ pub struct Listed {
 }
 
 /// The pairs in the order in which they were listed, inside two state counts, and for each first state a bit for each listed second.
-// A buffer with its length beside it: a rule of the project, an area allocates nothing and has memory for every pair from the start.
+// A buffer with its length beside it and no list that grows: an area has memory for every pair from the start, so no step can lack it.
 // No model beside the fields: contracts say `entries_of` of what was listed and the counts by name, and a model's value would say no more.
 #[derive(Drop)]
 pub struct Pairs {

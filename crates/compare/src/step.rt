@@ -2,16 +2,17 @@
 ghost use Rattle.std.specs.Prelude.{◌≡◌, ℕ, ◌<◌, ◌≤◌, ◌&&◌, length, if◌then◌else◌, ◌==◌};
 ghost use Rattle.schema.specs.Tables.{tables, sets};
 ghost use Rattle.domain.specs.Kinds.{bit};
+ghost use Rattle.compare.specs.Deciding.{StepsAsDecided};
 ghost use Rattle.compare.specs.Growing.{StepsGrown, GrownSame};
 ghost use Rattle.compare.specs.Listing.{entries_of, FewPairs};
 ghost use Rattle.compare.specs.Outcomes.{OneStepping};
 ghost use Rattle.compare.specs.Refusals.{Refuses};
 ghost use Rattle.compare.specs.Schemas.{first_automaton, second_automaton, StatePair, MarksLive, Noted};
-ghost use Rattle.compare.specs.Stepping.{next_pair, with_nexts, «Goes_on», Turn, Stepped, Stepping, step_kept_from, held_kept_from, is_running};
+ghost use Rattle.compare.specs.Stepping.{next_pair, with_nexts, GoesOn, Turn, Stepped, Stepping, step_kept_from, held_kept_from, is_running};
 ghost use Rattle.compare.specs.Strangers.{StepOfStranger};
 ghost use Rattle.compare.specs.Work.{said};
 
-use crate::area::Area;
+use crate::area::{Area, refusal};
 use crate::claim::Numbers;
 use crate::compared::Compared;
 use crate::event::{Decision, Event, decide};
@@ -71,7 +72,7 @@ impl Leading {
 impl Area {
     /// Lists what an unbroken pair leads to; the pair is at a place of the list. The verdict stands where no pair is left behind it.
     fn go_on<D: Domain>(&mut self, compared: &Compared<D>, pair: Listed, place: u16)
-        ensures { Noted compared.now (said self.old) → MarksLive D.Domain.holds compared.now → StatePair compared.now pair.first pair.second → place < length (entries_of self.old.pairs) → Goes_on (first_automaton D.Domain.holds compared.now) (second_automaton D.Domain.holds compared.now) (said self.old) pair place (said self.new) }
+        ensures { Noted compared.now (said self.old) → MarksLive D.Domain.holds compared.now → StatePair compared.now pair.first pair.second → place < length (entries_of self.old.pairs) → GoesOn (first_automaton D.Domain.holds compared.now) (second_automaton D.Domain.holds compared.now) (said self.old) pair place (said self.new) }
     {
         let symbols = compared
             .first
@@ -137,7 +138,7 @@ impl Area {
     {
         self.permits_held(first, second, claim)?;
         if steps == 0 || steps > MOST_STEPS {
-            return Err(self.refusal(Fault::Steps));
+            return Err(refusal(self, Fault::Steps));
         }
         if slots < ROW_PAIRS {
             return Err(Fault::Scratch.at(ROW_PAIRS));
@@ -155,12 +156,12 @@ impl Area {
         ensures { Refuses (held_kept_from (said self.now) (tables first.now.measured.schema) (tables second.now.measured.schema) claim) result }
     {
         if first.symbols() != second.symbols() {
-            return Err(self.refusal(Fault::Symbols));
+            return Err(refusal(self, Fault::Symbols));
         }
         // no phase refuses a holder's step
         self.permits_claim(claim, Event::Step)?;
         if !self.has_noted(first, second) {
-            return Err(self.refusal(Fault::Schemas));
+            return Err(refusal(self, Fault::Schemas));
         }
         Ok(())
     }
@@ -176,7 +177,7 @@ impl Area {
     }
 
     /// 1 where the verdict stands, and 0 while the area runs.
-    // A number, as the product's rules fix what a step answers: the pairs examined, and 1 or 0.
+    // Two numbers, as docs/area.md has it: the pairs examined, and 1 where the verdict stands or else 0.
     fn mark(&self) -> u32
         ensures { result ≡ (if is_running self.now.phase then 0 else 1) }
     {
@@ -187,7 +188,7 @@ impl Area {
 /// Examines up to that many pairs in the order of the list, until the verdict stands: how many it examined, and 1 where the verdict
 /// stands, else 0. The claim is told by its two numbers. Or `size`, `state`, `row`, `domain`, `symbols`, `foreign`, `ousted`, `schemas`,
 /// `steps` or `scratch`, and the area is as it was. The row pairs hold anything afterwards.
-#[tactic(auto, using(crate::proofs::Grown::steps_grown, crate::proofs::Grown::grown_same, crate::proofs::Strangers::step_of_stranger, crate::proofs::Turned::one_stepping, crate::proofs::Views::few_pairs))]
+#[tactic(auto, using(crate::proofs::Grown::steps_grown, crate::proofs::Grown::grown_same, crate::proofs::Strangers::step_of_stranger, crate::proofs::Turned::one_stepping, crate::proofs::Views::few_pairs, crate::proofs::Deciding::steps_as_decided))]
 pub fn step<D: Domain>(
     area: &mut Area,
     claim: Numbers,
@@ -202,6 +203,7 @@ pub fn step<D: Domain>(
     ensures stranger { StepOfStranger }
     ensures one { OneStepping }
     ensures few { FewPairs }
+    ensures table { StepsAsDecided }
 {
     let (first, second) = Tested::both(first, second)?;
     area.permits_step(&first, &second, claim, steps, scratch.len())?;

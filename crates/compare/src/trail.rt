@@ -1,5 +1,6 @@
 //! The trail to the broken pair of a comparison that came out apart.
 ghost use Rattle.std.specs.Prelude.{◌≡◌, ℕ, ◌≤◌, List, length};
+ghost use Rattle.compare.specs.Deciding.{TrailsAsDecided, TrailNotEarly};
 ghost use Rattle.compare.specs.Listing.{entries_of};
 ghost use Rattle.compare.specs.Outcomes.{OneTrailing};
 ghost use Rattle.compare.specs.Strangers.{TrailOfStranger};
@@ -60,7 +61,7 @@ pub(crate) fn broken_index(area: &Area) -> usize
 
 /// Writes the symbols that lead from the pair (0, 0) to the broken pair at the output's front, a byte each, and tells how many. Or `foreign`,
 /// `ousted`, `early` or `room`. The claim comes back either way.
-#[tactic(auto, using(crate::proofs::Trails::one_trail, crate::proofs::Trails::every_trail, crate::proofs::Strangers::trail_of_stranger, crate::proofs::Outcomes::one_trailing))]
+#[tactic(auto, using(crate::proofs::Trails::one_trail, crate::proofs::Trails::every_trail, crate::proofs::Strangers::trail_of_stranger, crate::proofs::Outcomes::one_trailing, crate::proofs::Deciding::trails_as_decided, crate::proofs::Deciding::trail_not_early))]
 pub fn trail(
     area: &Area,
     claim: ApartClaim,
@@ -71,6 +72,8 @@ pub fn trail(
     ensures every { EveryTrail }
     ensures stranger { TrailOfStranger }
     ensures answer { OneTrailing }
+    ensures table { TrailsAsDecided }
+    ensures early { TrailNotEarly }
 {
     // no `?`: the claim goes back with the refusal
     if let Err(refusal) = area.permits_claim(claim.numbers(), Event::Write) {

@@ -22,36 +22,34 @@ pub struct BrokenPair<'a> {
     pub kind: Kind,
 }
 
-impl Area {
-    /// Refuses what keeps two schemas from a document of the claim: `symbols`, `foreign`, `ousted`, `schemas`, `early` or `scratch`.
-    pub fn permits_write<D>(
-        &self,
-        first: &Tested<D>,
-        second: &Tested<D>,
-        claim: Numbers,
-        slots: usize,
-    ) -> Result<(), Refusal>
-        ensures { Refuses (write_kept_from (said self.now) (tables first.now.measured.schema) (tables second.now.measured.schema) claim slots) result }
-    {
-        self.permits_held(first, second, claim)?;
-        self.permits(Event::Write)?;
-        if slots < ROW_PAIRS {
-            return Err(Fault::Scratch.at(ROW_PAIRS));
-        }
-        Ok(())
+/// Refuses what keeps two schemas from a document of the claim: `symbols`, `foreign`, `ousted`, `schemas`, `early` or `scratch`.
+pub fn permits_write<D>(
+    area: &Area,
+    first: &Tested<D>,
+    second: &Tested<D>,
+    claim: Numbers,
+    slots: usize,
+) -> Result<(), Refusal>
+    ensures { Refuses (write_kept_from (said area.now) (tables first.now.measured.schema) (tables second.now.measured.schema) claim slots) result }
+{
+    area.permits_held(first, second, claim)?;
+    area.permits(Event::Write)?;
+    if slots < ROW_PAIRS {
+        return Err(Fault::Scratch.at(ROW_PAIRS));
     }
+    Ok(())
+}
 
-    /// The broken pair, where the area is apart.
-    pub fn broken_pair(&self) -> Option<BrokenPair>
-        ensures { BrokenOf self.now result }
-    {
-        match self.phase {
-            Phase::Apart(kind) => Some(BrokenPair {
-                pairs: &self.pairs,
-                index: broken_index(self),
-                kind,
-            }),
-            _ => None,
-        }
+/// The broken pair, where the area is apart.
+pub fn broken_pair(area: &Area) -> Option<BrokenPair>
+    ensures { BrokenOf area.now result }
+{
+    match area.phase {
+        Phase::Apart(kind) => Some(BrokenPair {
+            pairs: &area.pairs,
+            index: broken_index(area),
+            kind,
+        }),
+        _ => None,
     }
 }

@@ -64,4 +64,5 @@ module _ (A B : Automaton) where
         on
 
 pub tells_apart : TellsApart
+unfolding TellsApart
 tells_apart A B k es i way t d = built_tells A B k 0 0 way t d.built

@@ -1,16 +1,16 @@
 -- What the tests of the call tell, and the area's document as the climb finds it. Assumes nothing.
-use Rattle.std.proofs.Common.{◌≡◌, ℕ, ◌+◌, ◌<◌, ◌≤◌, Bool, Bor, List, [], ◌∷◌, length, Some, None, Ok, Err, Option, sym, refl, ap, ◌∙◌, subst}
+use Rattle.std.proofs.Common.{◌≡◌, ℕ, ◌+◌, ◌<◌, ◌≤◌, Bool, Bor, List, [], ◌∷◌, length, Some, None, Ok, Err, Option, Result, sym, refl, ap, ◌∙◌, subst}
 use Rattle.std.specs.Option.{ok_or}
 use Rattle.std.proofs.lemmas.Bool.{and_parts, eqb-true, ltb-false, not-false}
 use Rattle.std.proofs.lemmas.Option.{none-some}
 use Rattle.refusal.specs.declared.fault.Refusal.{Refusal}
-use Rattle.refusal.specs.Order.{first_of}
 use Rattle.codec.specs.declared.item.Level.{Level}
 use Rattle.codec.specs.Piles.{Stack}
 use Rattle.codec.specs.Trees.{Tree}
 use Rattle.schema.specs.Automata.{Automaton}
 use Rattle.schema.specs.declared.tested.Tested.{Tested}
-use Rattle.schema.specs.Tables.{Tables, tables}
+use Rattle.schema.specs.declared.tables.Schema.{Schema}
+use Rattle.schema.specs.Tables.{Tables, tables, sets}
 use Rattle.schema.proofs.Sound.{first_none}
 use Rattle.compare.specs.declared.area.Area.{Area}
 use Rattle.compare.specs.declared.claim.Numbers.{Numbers}
@@ -25,7 +25,7 @@ use Rattle.compare.specs.Trailing.{broken_index}
 use Rattle.compare.specs.Work.{Work, said}
 use Rattle.compare.specs.Writing.{write_kept_from, BrokenOf}
 use Rattle.compare.proofs.Allowing.{fails}
-use Rattle.compare.proofs.Tests.{found_early, found_late}
+use Rattle.compare.proofs.Tests.{found_early}
 use Rattle.document.specs.declared.level.Spot.{Spot}
 use Rattle.document.specs.declared.samples.Samples.{Samples as Kept}
 use Rattle.document.specs.declared.sheet.Sheet.{Sheet}
@@ -34,7 +34,13 @@ use Rattle.document.specs.Nodes.{Ready}
 use Rattle.document.specs.Sampling.{Leaves}
 use Rattle.document.specs.Seeds.{HasSamples}
 use Rattle.document.specs.Sheets.{Added}
-use Rattle.document.specs.Writing.{kept_from, short_levels, DocumentIn, NoDocument}
+use Rattle.document.specs.Writing.{kept_from, short_levels, DocumentIn, Documenting, NoDocument}
+
+-- what is said of tested schemas is said of those that were handed over
+pub handed_over : {D : Type 0} (holds : D → ℕ → Bool) (s s' u u' : Schema D) → s ≡ s' → u ≡ u' → (claim : Numbers) (slots levels : ℕ) (a : Area) (o : List ℕ) (r : Result ℕ Refusal) (o' : List ℕ) → Documenting (tables s) (tables u) (sets holds s) (sets holds u) claim slots levels a o r o' → Documenting (tables s') (tables u') (sets holds s') (sets holds u') claim slots levels a o r o'
+handed_over {D} holds s s' u u' first second claim slots levels a o r o' d =
+    subst (λ (x : Schema D). Documenting (tables x) (tables u') (sets holds x) (sets holds u') claim slots levels a o r o') first
+    (subst (λ (y : Schema D). Documenting (tables s) (tables y) (sets holds s) (sets holds y) claim slots levels a o r o') second d)
 
 -- what is there where it was taken for good, and where not
 pub ok_there : {X E : Type 0} (o : Option X) (e : E) (x : X) → Ok x ≡ ok_or o e → o ≡ Some x
@@ -52,9 +58,6 @@ module _ (w : Work) (T U : Tables) (claim : Numbers) (slots levels : ℕ) where
 
   pub kept_early : (e : Refusal) → write_kept_from w T U claim slots ≡ Some e → kept_from w T U claim slots levels ≡ Some e
   kept_early e is = found_early tests (short_levels levels ∷ []) e is
-
-  pub kept_late : write_kept_from w T U claim slots ≡ None → kept_from w T U claim slots levels ≡ first_of (short_levels levels ∷ [])
-  kept_late none = found_late tests (short_levels levels ∷ []) none
 
   -- where nothing is refused the counts are those noted, and what is lent suffices
   pub allowed_by : kept_from w T U claim slots levels ≡ None → (other_counts w T U ≡ None) × (272 ≤ slots) × (4160 ≤ levels)

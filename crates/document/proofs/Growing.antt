@@ -30,14 +30,14 @@ module _ (A : Automaton) where
   LeadsLive p a = (s : ℕ) × (A.next p a ≡ Some s) × Live A s
 
   -- the symbol leads to a state that has a sample
-  abbrev LeadsSampled : ℕ → ℕ → Type 0
+  abbrev pub LeadsSampled : ℕ → ℕ → Type 0
   LeadsSampled p a = (s : ℕ) × (A.next p a ≡ Some s) × ((t : Tree) × Sample A s t)
 
   -- children for a sequence, all of them samples
   abbrev pub SampledChildren : ℕ → List ℕ → Type 0
   SampledChildren p w = (cs : Children) × (word cs ≡ w) × Samples A p cs
 
-  gather : (p : ℕ) (w : List ℕ) → AllByRecursion (LeadsSampled p) w → SampledChildren p w
+  pub gather : (p : ℕ) (w : List ℕ) → AllByRecursion (LeadsSampled p) w → SampledChildren p w
   gather p [] all = (none, refl, tt)
   gather p (a ∷ w) all =
       let rest = gather p w all.1 in

@@ -6,27 +6,17 @@ use Rattle.codec.specs.Numbers.{number_bytes}
 use Rattle.codec.specs.Trees.{Tree, node, Children, child, word, many}
 use Rattle.schema.specs.Automata.{Automaton}
 use Rattle.compare.specs.declared.pairs.Listed.{Listed}
-use Rattle.document.specs.Forks.{followed_by, Fork, joined, head, tail}
+use Rattle.document.specs.Forks.{Fork, joined, head, tail}
 use Rattle.document.specs.Seeds.{needed}
-use Rattle.document.proofs.Splitting.{bytes_followed, joined_bytes, many_symbols}
+use Rattle.document.proofs.Splitting.{joined_bytes, many_symbols}
 
--- what was counted up to 65,537 may be added to and counted again
-pub capped_left : (a b : ℕ) → min (min a 65537 + b) 65537 ≡ min (a + b) 65537
-capped_left a b = omega arith
-
+-- what was counted up to 65,537 may be added to a number and counted again
 pub capped_right : (a b : ℕ) → min (a + min b 65537) 65537 ≡ min (a + b) 65537
 capped_right a b = omega arith
-
-pub capped_both : (a b : ℕ) → min (min a 65537 + min b 65537) 65537 ≡ min (a + b) 65537
-capped_both a b = omega arith
 
 -- the length of three lists joined
 length_three : (x y z : List ℕ) → length (x ++ (y ++ z)) ≡ length x + (length y + length z)
 length_three x y z = omega (arith, length-append x (y ++ z), length-append y z)
-
--- and of two, up to 65,537
-pub capped_append : (x y : List ℕ) → min (length (x ++ y)) 65537 ≡ min (min (length x) 65537 + min (length y) 65537) 65537
-capped_append x y = omega (arith, length-append x y)
 
 -- a tree's bytes are its value's, its child count's and its children's
 pub tree_length : (v : ℕ) (cs : Children) → length (tree_bytes (node v cs)) ≡ length (number_bytes v) + (length (number_bytes (length (word cs))) + length (children_bytes cs))
@@ -35,10 +25,6 @@ tree_length v cs = length_three (number_bytes v) (number_bytes (many cs)) (child
 -- children's bytes are the first one's symbol's and tree's, and those of the others
 pub child_length : (a : ℕ) (t : Tree) (cs : Children) → length (children_bytes (child a t cs)) ≡ length (number_bytes a) + (length (tree_bytes t) + length (children_bytes cs))
 child_length a t cs = length_three (number_bytes a) (tree_bytes t) (children_bytes cs)
-
--- with others after them there are the others' bytes more
-pub followed_length : (cs ds : Children) → length (children_bytes (followed_by cs ds)) ≡ length (children_bytes cs) + length (children_bytes ds)
-followed_length cs ds = ap length (bytes_followed cs ds) ∙ length-append (children_bytes cs) (children_bytes ds)
 
 module _ (A B : Automaton) {p q : ℕ} {e : Listed} (f : Fork A B p q e) where
   -- the bytes of a fork but for the part: its value's, its child count's, those of the children before, of the symbol, and of the children

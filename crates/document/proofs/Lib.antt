@@ -3,10 +3,13 @@ pub mod Around
 pub mod Brothers
 pub mod Calling
 pub mod Downward
+pub mod Existing
 pub mod Finding
 pub mod Growing
 pub mod Heights
 pub mod Lengths
+pub mod Marks
+pub mod Outcomes
 pub mod Passages
 pub mod Passing
 pub mod Places

@@ -4,14 +4,13 @@ use mathlib.Core.List.{reverse-cons}
 use Rattle.std.specs.List.{slice_get}
 use Rattle.std.proofs.lemmas.List.{reverse-reverse}
 use Rattle.std.proofs.lemmas.Option.{same_Some}
-use Rattle.codec.specs.Trees.{Tree, node, Children, word}
+use Rattle.codec.specs.Trees.{Tree}
 use Rattle.schema.specs.Automata.{Automaton}
 use Rattle.compare.specs.declared.pairs.Listed.{Listed}
 use Rattle.compare.specs.declared.phase.Kind.{Kind}
 use Rattle.document.specs.Climbing.{Above}
-use Rattle.document.specs.Documents.{Climbs, Way, AtEnd, Built, DocumentOf}
+use Rattle.document.specs.Documents.{Climbs, Way, Built, DocumentOf}
 use Rattle.document.specs.Forks.{Split}
-use Rattle.document.specs.Samples.{Samples}
 use Rattle.document.proofs.Splitting.{built_splits}
 use Rattle.document.proofs.Ways.{above_way, way_through}
 
@@ -55,13 +54,6 @@ module _ (A B : Automaton) (k : Kind) where
     document_splits whole t d j x e way there a =
         let onward = document_onward whole t d j x (e ∷ way) there a in
         (onward.0, built_splits A B k x.first x.second e way onward.0 onward.1)
-
-    -- at its end are the end's value and children
-    pub document_ends : (whole : List Listed) (t : Tree) → DocumentOf A B k es i whole t → (x : Listed) → slice_get es i ≡ Some x → (v : ℕ) × (cs : Children) × AtEnd A B k x.first x.second v (word cs) × Samples A x.first cs
-    document_ends whole t d x there = by (document_onward whole t d i x [] there refl)
-      where
-        by : (part : Tree) × Built A B k x.first x.second [] part → (v : ℕ) × (cs : Children) × AtEnd A B k x.first x.second v (word cs) × Samples A x.first cs
-        by (node v cs, b) = (v, cs, b.0, b.1)
 
     -- a tree built along all of the climb is the document
     pub document_of : (first : Listed) (way : List Listed) (t : Tree) → slice_get es 0 ≡ Some first → first.first ≡ 0 → first.second ≡ 0 → Above es 0 i way → Built A B k first.first first.second way t → DocumentOf A B k es i way t

@@ -1,10 +1,6 @@
 -- Where a symbol first stands in a sequence, and the sides of it that a fork's children have. Assumes nothing.
-use Rattle.std.proofs.Common.{◌≡◌, ℕ, ◌+◌, ◌<◌, List, [], ◌∷◌, ◌++◌, take, drop, length, Some, sym, refl, ap, ◌∙◌, arith}
-use Rattle.std.specs.List.{slice_get}
-use Rattle.std.proofs.lemmas.List.{length-take, take-append-drop}
-use Rattle.std.proofs.lemmas.Option.{slice_get_within}
+use Rattle.std.proofs.Common.{◌≡◌, ℕ, List, [], ◌∷◌, ◌++◌, refl, ap, ◌∙◌}
 use Rattle.codec.specs.Trees.{word}
-use Rattle.codec.proofs.Entries.{drop_some, nth_take}
 use Rattle.schema.specs.Automata.{Automaton}
 use Rattle.search.specs.Watching.{Holds}
 use Rattle.compare.specs.declared.pairs.Listed.{Listed}
@@ -12,34 +8,6 @@ use Rattle.document.specs.Documents.{OnWay}
 use Rattle.document.specs.Forks.{Fork}
 use Rattle.document.proofs.Splitting.{holds_here, holds_later}
 use Rattle.document.proofs.Unique.{one_on_way, one_samples}
-
--- the symbol behind the symbols u
-after_front : (a : ℕ) (u x : List ℕ) → slice_get (u ++ a ∷ x) (length u) ≡ Some a
-after_front a [] x = refl
-after_front a (b ∷ u) x = after_front a u x
-
--- a sequence is the symbols before a place, the one there, and those after it
-pub parted : (w : List ℕ) (i a : ℕ) → slice_get w i ≡ Some a → w ≡ take i w ++ a ∷ drop (i + 1) w
-parted w i a there = sym (take-append-drop i w) ∙ ap (λ (l : List ℕ). take i w ++ l) (drop_some w i a there)
-
--- a symbol that stands in a sequence stands at some place
-pub holds_place : (a : ℕ) (w : List ℕ) → Holds a w → (i : ℕ) × (slice_get w i ≡ Some a)
-holds_place a w h = (length h.0, ap (λ (l : List ℕ). slice_get l (length h.0)) h.2 ∙ after_front a h.0 h.1)
-
--- and one that stands at a place stands in it
-pub place_holds : (a : ℕ) (w : List ℕ) (i : ℕ) → slice_get w i ≡ Some a → Holds a w
-place_holds a w i there = (take i w, drop (i + 1) w, parted w i a there)
-
--- the symbol stands at no place before i
-abbrev pub NoneBefore : List ℕ → ℕ → ℕ → Type 0
-NoneBefore w i a = (j : ℕ) → j < i → slice_get w j ≡ Some a → ⊥
-
--- so it does not stand in the symbols before i
-pub none_before : (w : List ℕ) (i a : ℕ) → NoneBefore w i a → Holds a (take i w) → ⊥
-none_before w i a none h =
-    let place = holds_place a (take i w) h in
-    let low : place.0 < i = omega (arith, slice_get_within (take i w) place.0 a place.1, length-take i w) in
-    none place.0 low (sym (nth_take i w place.0 low) ∙ place.1)
 
 -- there is one way to part a sequence at the first such symbol
 pub one_parting : (a : ℕ) (u x v y : List ℕ) → (Holds a u → ⊥) → (Holds a v → ⊥) → u ++ a ∷ x ≡ v ++ a ∷ y → (u ≡ v) × (x ≡ y)

@@ -4,7 +4,7 @@ use Rattle.std.proofs.lemmas.List.{length-append}
 use Rattle.codec.specs.Numbers.{overwritten}
 use Rattle.codec.proofs.Writing.{over_none, over_length, over_join}
 use Rattle.document.specs.declared.sheet.Sheet.{Sheet}
-use Rattle.document.specs.Sheets.{room, Within, Added, Adds}
+use Rattle.document.specs.Sheets.{Within, Added, Adds}
 
 -- nothing written
 pub added_none : (s : Sheet) → Within s → Added [] s s
@@ -25,10 +25,6 @@ added_length bytes before after w = ap length w.written.after ∙ over_length be
 -- and its place stays in it
 pub added_within : (bytes : List ℕ) (before after : Sheet) → Added bytes before after → Within after
 added_within bytes before after w = omega (arith, added_length bytes before after w, w.written.room, w.written.next_place)
-
--- the room is less by the bytes
-pub added_room : (bytes : List ℕ) (before after : Sheet) → Added bytes before after → room after + length bytes ≡ room before
-added_room bytes before after w = omega (arith, added_length bytes before after w, w.written.room, w.written.next_place)
 
 module _ (some more : List ℕ) (before middle : Sheet) (w : Added some before middle) where
   -- more bytes behind some

@@ -34,11 +34,6 @@ bytes_followed (child a t cs) ds =
     ∙ ap (λ (l : List ℕ). number_bytes a ++ l) (sym (append_assoc (tree_bytes t) (children_bytes cs) (children_bytes ds)))
     ∙ sym (append_assoc (number_bytes a) (tree_bytes t ++ children_bytes cs) (children_bytes ds))
 
--- samples after samples are samples
-pub samples_followed : (A : Automaton) (p : ℕ) (cs ds : Children) → Samples A p cs → Samples A p ds → Samples A p (followed_by cs ds)
-samples_followed A p none ds s u = u
-samples_followed A p (child a t cs) ds s u = (s.0, samples_followed A p cs ds s.1 u)
-
 -- a symbol that stands in the rest of a sequence stands in it
 pub holds_later : (a b : ℕ) (w : List ℕ) → Holds a w → Holds a (b ∷ w)
 holds_later a b w h = (b ∷ h.0, h.1, ap (λ (l : List ℕ). b ∷ l) h.2)
@@ -48,7 +43,7 @@ pub holds_here : (a b : ℕ) (w : List ℕ) → b ≡ a → Holds a (b ∷ w)
 holds_here a b w same = ([], w, ap (λ (c : ℕ). c ∷ w) same)
 
 -- in a sequence without symbols none stands
-holds_none : (a : ℕ) → Holds a [] → ⊥
+pub holds_none : (a : ℕ) → Holds a [] → ⊥
 holds_none a h = by h.0 h.2
   where
     by : (u : List ℕ) → [] ≡ u ++ a ∷ h.1 → ⊥
@@ -148,7 +143,7 @@ module _ (A B : Automaton) {p q : ℕ} {e : Listed} (f : Fork A B p q e) where
       ∙ regrouped (number_bytes f.value) (number_bytes (length (word f.before ++ e.symbol ∷ word f.after))) (children_bytes f.before) (number_bytes e.symbol) (tree_bytes part) (children_bytes f.after)
 
 -- the symbols on both sides of one, each with its samples
-sides : (A : Automaton) (p a : ℕ) (u x : List ℕ) → AllByRecursion (LeadsLive A p) (u ++ a ∷ x) → AllByRecursion (LeadsLive A p) u × AllByRecursion (LeadsLive A p) x
+pub sides : (A : Automaton) (p a : ℕ) (u x : List ℕ) → AllByRecursion (LeadsLive A p) (u ++ a ∷ x) → AllByRecursion (LeadsLive A p) u × AllByRecursion (LeadsLive A p) x
 sides A p a [] x all = (tt, all.1)
 sides A p a (b ∷ u) x all = let rest = sides A p a u x all.1 in ((all.0, rest.0), rest.1)
 

@@ -1,21 +1,18 @@
--- The bytes before and after the part of a document at each point of the way: there they are, there are no others, and with the part they are
--- the whole. Assumes nothing.
-use Rattle.std.proofs.Common.{◌≡◌, ℕ, List, [], ◌∷◌, ◌++◌, length, reverse, Some, sym, refl, ap, ◌∙◌, subst, append_assoc}
+-- The bytes before and after the part of a document at each point of the way: with the part they are the whole. Assumes nothing.
+use Rattle.std.proofs.Common.{◌≡◌, ℕ, List, [], ◌∷◌, ◌++◌, reverse, Some, sym, refl, ap, ◌∙◌, subst, append_assoc}
 use mathlib.Core.List.{reverse-cons}
 use Rattle.std.specs.List.{slice_get}
 use Rattle.std.proofs.lemmas.List.{append-nil, reverse-reverse}
 use Rattle.std.proofs.lemmas.Option.{same_Some}
-use Rattle.codec.specs.Encoding.{tree_bytes, children_bytes}
-use Rattle.codec.specs.Numbers.{number_bytes}
-use Rattle.codec.specs.Trees.{Tree, word}
+use Rattle.codec.specs.Encoding.{tree_bytes}
+use Rattle.codec.specs.Trees.{Tree}
 use Rattle.schema.specs.Automata.{Automaton}
 use Rattle.compare.specs.declared.pairs.Listed.{Listed}
 use Rattle.compare.specs.declared.phase.Kind.{Kind}
 use Rattle.document.specs.Climbing.{Above}
 use Rattle.document.specs.Documents.{Climbs, Way, Built, DocumentOf}
-use Rattle.document.specs.Forks.{Fork, head, tail, joined, Split, Surrounds}
-use Rattle.document.proofs.Places.{one_fork}
-use Rattle.document.proofs.Splitting.{built_splits, joined_built, joined_bytes}
+use Rattle.document.specs.Forks.{Fork, head, tail, Split, Surrounds}
+use Rattle.document.proofs.Splitting.{built_splits, joined_bytes}
 use Rattle.document.proofs.Ways.{one_way, way_onward}
 
 -- the bytes of a part between those of its fork, between others
@@ -25,55 +22,7 @@ nested b h t x a = simp append_assoc
 deeper : (b h t x a u w : List ℕ) → w ≡ b ++ (u ++ a) → u ≡ h ++ (t ++ x) → w ≡ (b ++ h) ++ (t ++ (x ++ a))
 deeper b h t x a u w whole within = whole ∙ ap (λ (l : List ℕ). b ++ (l ++ a)) within ∙ nested b h t x a
 
-module _ (A B : Automaton) where
-  -- forks between the same pairs have the same bytes
-  same_heads : (p q : ℕ) (e : Listed) (f g : Fork A B p q e) → head A B f ≡ head A B g
-  same_heads p q e f g =
-      let same = one_fork A B p q e f g in
-      λ i. number_bytes (same.0 i) ++ (number_bytes (length (word (same.1 i) ++ e.symbol ∷ word (same.2 i))) ++ (children_bytes (same.1 i) ++ number_bytes e.symbol))
-
-  same_tails : (p q : ℕ) (e : Listed) (f g : Fork A B p q e) → tail A B f ≡ tail A B g
-  same_tails p q e f g = ap children_bytes (one_fork A B p q e f g).2
-
 module _ (A B : Automaton) (es : List Listed) where
-  -- what surrounds an entry's part, by the entry's parent
-  abbrev SurroundsFrom : Listed → List Listed → Listed → List ℕ → List ℕ → Type 0
-  SurroundsFrom e back x before after = (f : Fork A B x.first x.second e) × (b a : List ℕ) × (before ≡ b ++ head A B f) × (after ≡ tail A B f ++ a) × Surrounds A B es back b a
-
-  -- there are no others
-  pub one_surrounding : (back : List Listed) (b a b' a' : List ℕ) → Surrounds A B es back b a → Surrounds A B es back b' a' → (b ≡ b') × (a ≡ a')
-  one_surrounding [] b a b' a' s r = (s.0 ∙ sym r.0, s.1 ∙ sym r.1)
-  one_surrounding (e ∷ back) b a b' a' s r =
-      let parent : r.0 ≡ s.0 = same_Some _ _ (sym r.1 ∙ s.1) in
-      let moved = subst (λ (y : Listed). SurroundsFrom e back y b' a') parent (r.2, r.3, r.4, r.5, r.6, r.7) in
-      let rest = one_surrounding back s.3 s.4 moved.1 moved.2 s.7 moved.5 in
-      let f = s.2 in
-      let g = moved.0 in (
-        s.5 ∙ ap (λ (l : List ℕ). l ++ head A B f) rest.0 ∙ ap (λ (l : List ℕ). moved.1 ++ l) (same_heads A B s.0.first s.0.second e f g) ∙ sym moved.3,
-        s.6 ∙ ap (λ (l : List ℕ). l ++ s.4) (same_tails A B s.0.first s.0.second e f g) ∙ ap (λ (l : List ℕ). tail A B g ++ l) rest.1 ∙ sym moved.4,
-      )
-
-  module _ (k : Kind) (first : Listed) (listed : slice_get es 0 ≡ Some first) where
-    -- a part with what surrounds it is the whole
-    pub surrounded_built : (back : List Listed) (j : ℕ) (x : Listed) (way : List Listed) (part : Tree) (b a : List ℕ) → Climbs es j back → Surrounds A B es back b a → slice_get es j ≡ Some x → Built A B k x.first x.second way part → (t : Tree) × Built A B k first.first first.second (reverse back ++ way) t × (tree_bytes t ≡ b ++ (tree_bytes part ++ a))
-    surrounded_built [] j x way part b a c s there built =
-        let same : x ≡ first = same_Some _ _ (sym there ∙ ap (slice_get es) c ∙ listed) in (
-          part,
-          subst (λ (y : Listed). Built A B k y.first y.second way part) same built,
-          sym (append-nil (tree_bytes part)) ∙ ap (λ (l : List ℕ). tree_bytes part ++ l) (sym s.1) ∙ ap (λ (l : List ℕ). l ++ (tree_bytes part ++ a)) (sym s.0),
-        )
-    surrounded_built (e ∷ back) j x way part b a c s there built =
-        let here : x ≡ e = same_Some _ _ (sym there ∙ c.0) in
-        let f = s.2 in
-        let on = joined_built A B k s.0.first s.0.second e way f part (subst (λ (y : Listed). Built A B k y.first y.second way part) here built) in
-        let whole = surrounded_built back e.parent s.0 (e ∷ way) (joined A B f part) s.3 s.4 c.2 s.7 s.1 on in
-        let turned : reverse back ++ (e ∷ way) ≡ reverse (e ∷ back) ++ way = sym (append_assoc (reverse back) (e ∷ []) way) ∙ ap (λ (l : List Listed). l ++ way) (sym (reverse-cons e back)) in (
-          whole.0,
-          subst (λ (l : List Listed). Built A B k first.first first.second l whole.0) turned whole.1,
-          deeper s.3 (head A B f) (tree_bytes part) (tail A B f) s.4 (tree_bytes (joined A B f part)) (tree_bytes whole.0) whole.2 (joined_bytes A B f part)
-              ∙ ap (λ (l : List ℕ). l ++ (tree_bytes part ++ (tail A B f ++ s.4))) (sym s.5) ∙ ap (λ (l : List ℕ). b ++ (tree_bytes part ++ l)) (sym s.6),
-        )
-
   -- nothing surrounds the whole
   pub surrounds_none : Surrounds A B es [] [] []
   surrounds_none = (refl, refl)
@@ -136,18 +85,3 @@ module _ (A B : Automaton) (es : List Listed) where
     document_parts whole t d =
         let built : Built A B k d.first.first d.first.second whole t = subst (λ (p : ℕ). Built A B k p d.first.second whole t) (sym d.starts.0) (subst (λ (q : ℕ). Built A B k 0 q whole t) (sym d.starts.1) d.built) in
         parts_of k d.first d.listed back j x way t up there (subst (λ (l : List Listed). Built A B k d.first.first d.first.second l t) (one_way es i whole (reverse back ++ way) d.leads leads) built)
-
-    -- and a part with what surrounds it is the document
-    pub surrounded_document : (first : Listed) → slice_get es 0 ≡ Some first → first.first ≡ 0 → first.second ≡ 0 → (part : Tree) (b a : List ℕ) → Surrounds A B es back b a → Built A B k x.first x.second way part → (t : Tree) × DocumentOf A B k es i (reverse back ++ way) t × (tree_bytes t ≡ b ++ (tree_bytes part ++ a))
-    surrounded_document first listed p q part b a s built =
-        let whole = surrounded_built k first listed back j x way part b a up s there built in (
-          whole.0,
-          record {
-            first = first;
-            listed = listed;
-            starts = (p, q);
-            leads = leads;
-            built = subst (λ (n : ℕ). Built A B k 0 n (reverse back ++ way) whole.0) q (subst (λ (n : ℕ). Built A B k n first.second (reverse back ++ way) whole.0) p whole.1);
-          },
-          whole.2,
-        )

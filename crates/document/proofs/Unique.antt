@@ -94,6 +94,7 @@ module _ (A B : Automaton) where
         s
 
 pub one_document : OneDocument
+unfolding OneDocument
 one_document A B k es i v w t u d d' =
     let way : v ≡ w = one_way es i v w d.leads d'.leads in
     (way, one_built A B k 0 0 w t u (subst (λ (l : List Listed). Built A B k 0 0 l t) way d.built) d'.built)
@@ -101,6 +102,7 @@ one_document A B k es i v w t u d d' =
 module _ (A B : Automaton) (w : Work) where
   -- an area's broken pair has one document
   pub one_document_in : (v u : List Listed) (t r : Tree) → DocumentIn A B w v t → DocumentIn A B w u r → (v ≡ u) × (t ≡ r)
+  unfolding OneDocument
   one_document_in v u t r d d' =
       let kinds : phase.Apart d.0 ≡ phase.Apart d'.0 = sym d.1 ∙ d'.1 in
       let kind : d.0 ≡ d'.0 = cc in

@@ -19,11 +19,12 @@ use Rattle.document.specs.declared.level.Spot.{Spot}
 use Rattle.document.specs.Climbing.{Above}
 use Rattle.document.specs.Documents.{AtEnd, Built, Climbs, DocumentOf}
 use Rattle.document.specs.Forks.{head, tail, joined}
-use Rattle.document.specs.Marks.{mark, Marked, StepsUp, EndsAt, Climbed}
+use Rattle.document.specs.Marks.{mark, MarksOf, StepsUp, EndsAt, Climbed}
 use Rattle.document.specs.Nodes.{Answered}
 use Rattle.document.specs.Seeds.{needed}
 use Rattle.document.proofs.Growing.{SampledChildren}
 use Rattle.document.proofs.Lengths.{needed_joined, capped_right}
+use Rattle.document.proofs.Marks.{marks_long, marks_joined}
 use Rattle.document.proofs.Passing.{document_onward, document_splits, document_of}
 use Rattle.document.proofs.Splitting.{joined_built, end_with}
 use Rattle.document.proofs.Ways.{above_more, above_short, way_short, way_through}
@@ -49,12 +50,6 @@ module _ (A B : Automaton) (k : Kind) (es : List Listed) (i : ℕ) (x : Listed) 
       none v (word cs) (subst (λ (z : Listed). AtEnd A B k z.first z.second v (word cs)) same b.0)
 
 module _ (A B : Automaton) (k : Kind) (es : List Listed) (i : ℕ) where
-  -- a way has a level for each pair
-  same_length : (x y : ℕ) (way : List Listed) (marks : List (Level Spot)) → Marked A B es x y way marks → length marks ≡ length way
-  same_length x y [] marks m = ap length m
-  same_length x y (e ∷ way) [] m = absurd m
-  same_length x y (e ∷ way) (l ∷ marks) m = omega (arith, same_length e.first e.second way marks m.4)
-
   -- a point of the climb: the pair there, and what is built behind it
   pub record Point (at size : ℕ) (levels : List (Level Spot)) : Type 0 where
     pub pair : Listed
@@ -64,20 +59,18 @@ module _ (A B : Automaton) (k : Kind) (es : List Listed) (i : ℕ) where
     pub part : Tree
     pub built : Built A B k pair.first pair.second way part
     pub bytes : size ≡ needed part
-    pub marks : List (Level Spot)
-    pub marked : Marked A B es pair.first pair.second way marks
-    pub kept : levels ≡ reverse marks
+    pub marked : MarksOf A B es levels (reverse way)
 
   -- it begins at the end
   pub begins : (size : ℕ) (levels : List (Level Spot)) → EndsAt A B es k i (Some size) → levels ≡ [] → Point i size levels
-  begins size levels (x, t, there, built, bytes) none = record { pair = x; there = there; way = []; above = refl; part = t; built = built; bytes = bytes; marks = []; marked = refl; kept = none }
+  begins size levels (x, t, there, built, bytes) none = record { pair = x; there = there; way = []; above = refl; part = t; built = built; bytes = bytes; marked = subst (λ (ls : List (Level Spot)). MarksOf A B es ls []) (sym none) tt }
 
   -- and goes on by steps
   pub goes_up : (at size : ℕ) (levels : List (Level Spot)) (s : Step) → Point at size levels → StepsUp A B es at (Some s) → Point s.at (min (size + s.size) 65537) (levels ++ mark at s.left ∷ [])
   goes_up at size levels s p (e, x, led, f, up, left, bytes) =
       let same : p.pair ≡ e = same_Some _ _ (sym p.there ∙ led.there) in
       let built : Built A B k e.first e.second p.way p.part = subst (λ (y : Listed). Built A B k y.first y.second p.way p.part) same p.built in
-      let marked : Marked A B es e.first e.second p.way p.marks = subst (λ (y : Listed). Marked A B es y.first y.second p.way p.marks) same p.marked in
+      let marked = marks_joined A B es levels (mark at s.left ∷ []) (reverse p.way) (e ∷ []) p.marked ((at, x, led, f, ap (mark at) left), tt) in
       record {
         pair = x;
         there = ap (slice_get es) up ∙ led.parent;
@@ -88,14 +81,12 @@ module _ (A B : Automaton) (k : Kind) (es : List Listed) (i : ℕ) where
         bytes =
             ap (λ (n : ℕ). min (size + n) 65537) bytes ∙ capped_right size (length (head A B f) + length (tail A B f))
             ∙ ap (λ (n : ℕ). min (n + (length (head A B f) + length (tail A B f))) 65537) p.bytes ∙ sym (needed_joined A B f p.part);
-        marks = mark at s.left ∷ p.marks;
-        marked = (at, led.there, f, ap (mark at) left, marked);
-        kept = ap (λ (l : List (Level Spot)). l ++ mark at s.left ∷ []) p.kept ∙ sym (reverse-cons (mark at s.left) p.marks);
+        marked = subst (MarksOf A B es (levels ++ mark at s.left ∷ [])) (sym (reverse-cons e p.way)) marked;
       }
 
   -- its levels are fewer than the pairs before it
   pub levels_few : (at size : ℕ) (levels : List (Level Spot)) → Point at size levels → at + length levels ≤ i
-  levels_few at size levels p = omega (arith, ap length p.kept, length-reverse p.marks, same_length p.pair.first p.pair.second p.way p.marks p.marked, above_short es at i p.way p.above)
+  levels_few at size levels p = omega (arith, marks_long A B es levels (reverse p.way) p.marked, length-reverse p.way, above_short es at i p.way p.above)
 
   -- the broken pair of a document is listed
   broken_there : (whole : List Listed) (t : Tree) → DocumentOf A B k es i whole t → (x : Listed) × (slice_get es i ≡ Some x)
@@ -106,10 +97,10 @@ module _ (A B : Automaton) (k : Kind) (es : List Listed) (i : ℕ) where
       by (f ∷ back) c = (f, c.0)
 
   -- the levels of its way are fewer than the listed pairs
-  pub way_levels : (whole : List Listed) (t : Tree) (marks levels : List (Level Spot)) → DocumentOf A B k es i whole t → Marked A B es 0 0 whole marks → levels ≡ reverse marks → length levels < length es
-  way_levels whole t marks levels d marked kept =
+  pub way_levels : (whole : List Listed) (t : Tree) (levels : List (Level Spot)) → DocumentOf A B k es i whole t → MarksOf A B es levels (reverse whole) → length levels < length es
+  way_levels whole t levels d marked =
       let x = broken_there whole t d in
-      omega (arith, ap length kept, length-reverse marks, same_length 0 0 whole marks marked, way_short es i whole d.leads, slice_get_within es i x.0 x.1)
+      omega (arith, marks_long A B es levels (reverse whole) marked, length-reverse whole, way_short es i whole d.leads, slice_get_within es i x.0 x.1)
 
   -- where it can't begin there is no document
   pub no_end : EndsAt A B es k i None → (whole : List Listed) (t : Tree) → DocumentOf A B k es i whole t → ⊥
@@ -138,9 +129,7 @@ module _ (A B : Automaton) (k : Kind) (es : List Listed) (i : ℕ) where
     p.part,
     document_of A B k es i p.pair p.way p.part p.there first second p.above p.built,
     p.bytes,
-    p.marks,
-    subst (λ (y : ℕ). Marked A B es 0 y p.way p.marks) second (subst (λ (x : ℕ). Marked A B es x p.pair.second p.way p.marks) first p.marked),
-    p.kept,
+    p.marked,
   )
 
   -- and where it is not there is none

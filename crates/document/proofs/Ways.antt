@@ -1,16 +1,14 @@
 -- The way to a listed pair: there is one only, its symbols are the pair's trail, and a climb passes through each point of it. Assumes nothing.
-use Rattle.std.proofs.Common.{◌≡◌, ℕ, ◌+◌, ◌<◌, ◌≤◌, List, [], ◌∷◌, ◌++◌, reverse, length, Some, None, sym, refl, ap, ◌∙◌, subst, append_assoc, arith}
+use Rattle.std.proofs.Common.{◌≡◌, ℕ, ◌+◌, ◌<◌, ◌≤◌, List, [], ◌∷◌, ◌++◌, reverse, length, Some, sym, refl, ap, ◌∙◌, subst, append_assoc, arith}
 use mathlib.Core.List.{reverse-cons}
 use Rattle.std.specs.List.{slice_get}
 use Rattle.std.proofs.lemmas.List.{length-reverse, map-append, reverse-append, reverse-reverse}
 use Rattle.std.proofs.lemmas.Option.{same_Some}
-use Rattle.compare.specs.declared.area.Area.{Area}
 use Rattle.compare.specs.declared.pairs.Listed.{Listed}
 use Rattle.compare.specs.declared.pairs.Pairs.{Pairs}
 use Rattle.compare.specs.Listing.{entries_of}
-use Rattle.compare.specs.Trailing.{Traced, Trail, led_to, broken_index}
-use Rattle.compare.specs.Work.{said}
-use Rattle.compare.proofs.Trails.{broken_trail, every_trail, trail_ends}
+use Rattle.compare.specs.Trailing.{Traced, Trail}
+use Rattle.compare.proofs.Trails.{every_trail}
 use Rattle.document.specs.Climbing.{Above}
 use Rattle.document.specs.Documents.{Climbs, Way, symbols_of}
 
@@ -63,17 +61,9 @@ module _ (es : List Listed) where
   pub way_short : (i : ℕ) (way : List Listed) → Way es i way → length way ≤ i
   way_short i way w = omega (arith, length-reverse way, climbs_short i (reverse way) w)
 
-  -- a climb begins with nothing behind it
-  pub above_none : (i : ℕ) → Above es i i []
-  above_none i = refl
-
-  -- and goes on to the parent
+  -- a climb goes on to the parent
   pub above_more : (j i : ℕ) (e : Listed) (way : List Listed) → Above es j i way → slice_get es j ≡ Some e → e.parent < j → Above es e.parent i (e ∷ way)
   above_more j i e way a is before = (j, is, refl, before, a)
-
-  -- going down again, the next entry is the first one behind it
-  pub above_next : (j i : ℕ) (e : Listed) (back way : List Listed) → Climbs es j back → Above es j i (e ∷ way) → (k : ℕ) × (slice_get es k ≡ Some e) × Climbs es k (e ∷ back) × Above es k i way
-  above_next j i e back way c a = (a.0, a.1, (a.1, a.3, subst (λ (n : ℕ). Climbs es n back) (sym a.2) c), a.4)
 
   -- each entry behind a point of a climb is at a later place
   pub above_short : (j i : ℕ) (way : List Listed) → Above es j i way → j + length way ≤ i
@@ -116,25 +106,9 @@ module _ (es : List Listed) where
         sym (reverse-reverse whole) ∙ ap reverse t.2 ∙ reverse-append (reverse way) t.0 ∙ ap (λ (l : List Listed). reverse t.0 ++ l) (reverse-reverse way),
       )
 
-  -- where no parent stands before a point of a climb, a way can only begin there
-  pub way_begins : (j : ℕ) → led_to es j ≡ None → (way : List Listed) → Way es j way → (j ≡ 0) × (way ≡ [])
-  way_begins j none [] w = (w, refl)
-  way_begins j none (e ∷ way) w = absurd (omega (arith, ap length (trail_ends es j none (symbols_of (e ∷ way)) (way_trail j (e ∷ way) w))))
-
-  -- at the first entry that is all of it
-  pub way_whole : (i : ℕ) (way whole : List Listed) → Way es i whole → Above es 0 i way → whole ≡ way
-  way_whole i way whole w a = one_way i whole way w (above_way i way a)
-
 -- every listed pair has a way
 pub every_way : (p : Pairs) (i : ℕ) → i < length (entries_of p) → (way : List Listed) × Way (entries_of p) i way
 every_way p i inside =
     let t = every_trail p i inside in
     let w = trail_way (entries_of p) i t.0 t.1 in
-    (w.0, w.1)
-
--- and so has the broken one
-pub broken_way : (a : Area) → (way : List Listed) × Way (said a).pairs (broken_index (said a)) way
-broken_way a =
-    let t = broken_trail a in
-    let w = trail_way (said a).pairs (broken_index (said a)) t.0 t.1 in
     (w.0, w.1)

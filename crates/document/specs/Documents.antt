@@ -1,15 +1,18 @@
 -- Documents: the tree that tells two automata apart, built along the trail to a broken pair. Assumes nothing.
-use Rattle.std.specs.Prelude.{◌≡◌, ℕ, ◌<◌, true, false, ◌⊎◌, List, [], ◌∷◌, map, reverse, Some}
+use Rattle.std.specs.Prelude.{◌≡◌, ℕ, ◌^◌, ◌<◌, true, false, ◌⊎◌, List, [], ◌∷◌, map, reverse, Some}
 use Rattle.std.specs.List.{slice_get}
 use Rattle.codec.specs.Trees.{Tree, node, Children, none, child, word}
 use Rattle.domain.specs.Sets.{Smallest, alone}
 use Rattle.schema.specs.Automata.{Automaton, allowed, accepts}
-use Rattle.schema.specs.Live.{LiveSequence}
+use Rattle.schema.specs.Live.{Live, LiveSequence}
 use Rattle.search.specs.Sequences.{First}
 use Rattle.search.specs.Watching.{Holds}
 use Rattle.compare.specs.declared.pairs.Listed.{Listed}
 use Rattle.compare.specs.declared.phase.Kind.{Kind}
 use Rattle.compare.specs.declared.phase.Kind.TheVariants.{Value, Content}
+use Rattle.compare.specs.Breaking.{Broken}
+use Rattle.compare.specs.Growing.{Reached}
+use Rattle.compare.specs.Work.{start}
 use Rattle.document.specs.Samples.{SampleSequence, Samples}
 
 -- from an entry along its parents to the first one: the entries on the way but for the first, the last one first
@@ -63,9 +66,15 @@ module _ (A B : Automaton) where
     pub built : Built k 0 0 way t
 
 -- a document is accepted by the first automaton, and not by the second
-abbrev pub TellsApart : Type 0
+unfoldable pub TellsApart : Type 0
 TellsApart = (A B : Automaton) (k : Kind) (es : List Listed) (i : ℕ) (way : List Listed) (t : Tree) → DocumentOf A B k es i way t → (accepts A 0 t ≡ true) × (accepts B 0 t ≡ false)
 
 -- there is one document and one way to it at most
-abbrev pub OneDocument : Type 0
+unfoldable pub OneDocument : Type 0
 OneDocument = (A B : Automaton) (k : Kind) (es : List Listed) (i : ℕ) (v w : List Listed) (t u : Tree) → DocumentOf A B k es i v t → DocumentOf A B k es i w u → (v ≡ w) × (t ≡ u)
+
+-- where (0, 0) is listed first, its first state is live, and each listed pair is reached by live symbols, a broken pair has a document: it
+-- can't be that there is none. Values are numbers below 2 ^ 32
+unfoldable pub HasDocument : Type 0
+HasDocument =
+    (A B : Automaton) (k : Kind) (es : List Listed) (i : ℕ) (x : Listed) → ((q v : ℕ) → A.has q v ≡ true → v < 2 ^ 32) → Live A 0 → slice_get es 0 ≡ Some start → Reached A B es → slice_get es i ≡ Some x → Broken A B k x.first x.second → ((way : List Listed) (t : Tree) → DocumentOf A B k es i way t → ⊥) → ⊥

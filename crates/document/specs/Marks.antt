@@ -24,11 +24,16 @@ pub record LedFrom (es : List Listed) (i : ℕ) (e x : Listed) : Type 0 where
   pub parent : slice_get es e.parent ≡ Some x
 
 module _ (A B : Automaton) (es : List Listed) where
-  -- the levels of the pairs on a way that leaves the states p and q
-  abbrev pub Marked : ℕ → ℕ → List Listed → List (Level Spot) → Type 0
-  Marked p q [] levels = levels ≡ []
-  Marked p q (e ∷ way) [] = ⊥
-  Marked p q (e ∷ way) (l ∷ levels) = (i : ℕ) × (slice_get es i ≡ Some e) × (f : Fork A B p q e) × (l ≡ mark i (length (word f.after))) × Marked e.first e.second way levels
+  -- the level is that of a listed pair: of a place where it is listed, with the count of the children that follow the one that goes on to it
+  abbrev pub MarkOf : Level Spot → Listed → Type 0
+  MarkOf l e = (i : ℕ) × (x : Listed) × LedFrom es i e x × (f : Fork A B x.first x.second e) × (l ≡ mark i (length (word f.after)))
+
+  -- the levels are those of the pairs, in this order
+  abbrev pub MarksOf : List (Level Spot) → List Listed → Type 0
+  MarksOf [] [] = Unit {0}
+  MarksOf [] (e ∷ back) = ⊥
+  MarksOf (l ∷ levels) [] = ⊥
+  MarksOf (l ∷ levels) (e ∷ back) = MarkOf l e × MarksOf levels back
 
   -- one step up, from the pair at i to the one that led to it: where that is, how many children follow the one that goes on, and the bytes of
   -- the node but for that child's tree, 65,537 for more than 65,536; none, where no node goes on so
@@ -44,5 +49,5 @@ module _ (A B : Automaton) (es : List Listed) where
   -- a climb from the pair at i, which is broken in a kind, finds the bytes needed for the document, and leaves the levels of the way to it,
   -- its last pair at the bottom; or none: there is no document
   abbrev pub Climbed : Kind → ℕ → Option ℕ → List (Level Spot) → Type 0
-  Climbed k i (Some size) levels = (way : List Listed) × (t : Tree) × DocumentOf A B k es i way t × (size ≡ needed t) × (marks : List (Level Spot)) × Marked 0 0 way marks × (levels ≡ reverse marks)
+  Climbed k i (Some size) levels = (way : List Listed) × (t : Tree) × DocumentOf A B k es i way t × (size ≡ needed t) × MarksOf levels (reverse way)
   Climbed k i None levels = (way : List Listed) (t : Tree) → DocumentOf A B k es i way t → ⊥

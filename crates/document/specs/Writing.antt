@@ -1,5 +1,5 @@
 -- The call that writes a document: its refusals in their order, and its one outcome. Assumes nothing.
-use Rattle.std.specs.Prelude.{◌≡◌, ℕ, ◌<◌, ◌≤◌, Bool, cond, ◌⊎◌, List, [], ◌∷◌, length, Some, None, Ok, Err, Option, Result, nat_lt}
+use Rattle.std.specs.Prelude.{◌≡◌, ℕ, ◌<◌, ◌≤◌, Bool, false, cond, ◌⊎◌, List, [], ◌∷◌, length, Some, None, Ok, Err, Option, Result, nat_lt}
 use Rattle.refusal.specs.declared.fault.Fault.TheVariants.{Schemas, Scratch, Room}
 use Rattle.refusal.specs.declared.fault.Refusal.{Refusal}
 use Rattle.refusal.specs.Order.{first_of}
@@ -16,6 +16,7 @@ use Rattle.compare.specs.declared.pairs.Listed.{Listed}
 use Rattle.compare.specs.declared.phase.Kind.{Kind}
 use Rattle.compare.specs.declared.phase.Phase.TheVariants as phase
 use Rattle.compare.specs.Refusals.{other_symbols, of_another, not_held, other_counts, phase_refuses, short_scratch}
+use Rattle.compare.specs.Strangers.{is_holder, stranger}
 use Rattle.compare.specs.Trailing.{broken_index}
 use Rattle.compare.specs.Work.{Work, said}
 use Rattle.document.specs.Documents.{DocumentOf}
@@ -59,3 +60,13 @@ abbrev pub Documenting : Tables → Tables → List (ℕ → Bool) → List (ℕ
 Documenting T U sets others claim slots levels a output r output' =
     ((e : Refusal) × (early_refusal (said a) T U claim slots levels ≡ Some e) × (r ≡ Err e) × (output' ≡ output))
     ⊎ ((early_refusal (said a) T U claim slots levels ≡ None) × DocumentAnswer (automaton T sets) (automaton U others) (said a) output r output')
+
+-- the call has one answer, and leaves one output
+unfoldable pub OneDocumenting : Type 0
+OneDocumenting =
+    (T U : Tables) (sets others : List (ℕ → Bool)) (claim : Numbers) (slots levels : ℕ) (a : Area) (output : List ℕ) (r s : Result ℕ Refusal) (one other : List ℕ) → Documenting T U sets others claim slots levels a output r one → Documenting T U sets others claim slots levels a output s other → (r ≡ s) × (one ≡ other)
+
+-- with numbers that are not the holder's it is refused: by a fault of the schemas, by `symbols`, or as a stranger's; the output stays as it was
+unfoldable pub DocumentOfStranger : Type 0
+DocumentOfStranger =
+    (T U : Tables) (sets others : List (ℕ → Bool)) (claim : Numbers) (slots levels : ℕ) (a : Area) (output : List ℕ) (r : Result ℕ Refusal) (output' : List ℕ) → Documenting T U sets others claim slots levels a output r output' → is_holder (said a) claim ≡ false → (e : Refusal) × (r ≡ Err e) × (first_of (either_fault T U ∷ other_symbols (said a) T U ∷ Some (stranger (said a) claim) ∷ []) ≡ Some e) × (output' ≡ output)

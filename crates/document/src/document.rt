@@ -3,8 +3,8 @@ ghost use Rattle.std.specs.Prelude.{◌≡◌, ◌≤◌, None, length};
 ghost use Rattle.schema.specs.Tables.{tables, sets, automaton_of};
 ghost use Rattle.compare.specs.Refusals.{Refuses, other_counts};
 ghost use Rattle.compare.specs.Work.{said};
-ghost use Rattle.document.specs.Documents.{TellsApart, OneDocument};
-ghost use Rattle.document.specs.Writing.{Documenting, DocumentAnswer, kept_from};
+ghost use Rattle.document.specs.Documents.{TellsApart, OneDocument, HasDocument};
+ghost use Rattle.document.specs.Writing.{Documenting, DocumentAnswer, OneDocumenting, DocumentOfStranger, kept_from};
 
 use crate::level::Spot;
 use crate::samples::Samples;
@@ -13,9 +13,10 @@ use crate::size::LONGEST;
 use crate::telling::Telling;
 use codec::item::Level;
 use codec::pile::Pile;
-use compare::area::Area;
+use compare::area::{Area, refusal};
 use compare::claim::Numbers;
 use compare::pairs::PLACES;
+use compare::writing::{broken_pair, permits_write};
 use domain::domain::Domain;
 use refusal::fault::{Fault, Refusal};
 use schema::tables::{STATES, Schema};
@@ -36,7 +37,7 @@ fn permits<D>(
 ) -> Result<(), Refusal>
     ensures { Refuses (kept_from (said area.now) (tables first.now.measured.schema) (tables second.now.measured.schema) claim slots levels) result }
 {
-    area.permits_write(first, second, claim, slots)?;
+    permits_write(area, first, second, claim, slots)?;
     if levels < LEVELS {
         return Err(Fault::Scratch.at(LEVELS));
     }
@@ -55,8 +56,8 @@ fn write_document<D: Domain>(
 ) -> Result<usize, Refusal>
     ensures { other_counts (said area.now) (tables first.now.measured.schema) (tables second.now.measured.schema) ≡ None → 272 ≤ length scratch.old → 4160 ≤ length levels.old → DocumentAnswer (automaton_of D.Domain.holds first.now.measured.schema) (automaton_of D.Domain.holds second.now.measured.schema) (said area.now) output.old result output.new }
 {
-    let none = area.refusal(Fault::Schemas);
-    let broken = area.broken_pair().ok_or(none)?;
+    let none = refusal(area, Fault::Schemas);
+    let broken = broken_pair(area).ok_or(none)?;
     let telling = Telling {
         samples: Samples::of(first, scratch),
         second,
@@ -81,7 +82,7 @@ fn write_document<D: Domain>(
 /// Writes the document of a comparison that came out apart at the output's front, and tells its length. The claim is told by its two numbers.
 /// Or `size`, `state`, `row`, `domain`, `symbols`, `foreign`, `ousted`, `schemas`, `early`, `scratch` or `room`, and the output is as it was. The
 /// row pairs and levels hold anything afterwards.
-#[tactic(auto, using(crate::proofs::Accepting::tells_apart, crate::proofs::Unique::one_document))]
+#[tactic(auto, using(crate::proofs::Accepting::tells_apart, crate::proofs::Unique::one_document, crate::proofs::Existing::has_document, crate::proofs::Outcomes::one_documenting, crate::proofs::Outcomes::document_of_stranger))]
 pub fn document<D: Domain>(
     area: &Area,
     claim: Numbers,
@@ -92,8 +93,11 @@ pub fn document<D: Domain>(
     output: &mut [u8],
 ) -> Result<usize, Refusal>
     ensures outcome { Documenting (tables first.now) (tables second.now) (sets D.Domain.holds first.now) (sets D.Domain.holds second.now) claim (length scratch.old) (length levels.old) area.now output.old result output.new }
+    ensures once { OneDocumenting }
+    ensures stranger { DocumentOfStranger }
     ensures apart { TellsApart }
     ensures one { OneDocument }
+    ensures exists { HasDocument }
 {
     let (first, second) = Tested::both(first, second)?;
     permits(area, &first, &second, claim, scratch.len(), levels.len())?;

@@ -1,5 +1,5 @@
 //! How many bytes a document may have, and counting them up to there.
-ghost use Rattle.std.specs.Prelude.{◌≡◌, ◌+◌, ◌<◌, min};
+ghost use Rattle.std.specs.Prelude.{◌≡◌, ◌+◌, min};
 
 /// The most bytes of a document.
 pub const LONGEST: u32 = 65_536;

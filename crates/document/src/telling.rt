@@ -1,5 +1,5 @@
 //! What the nodes of a document are told by: the value and the children's symbols of one on the way, and of the one at its end.
-ghost use Rattle.std.specs.Prelude.{◌≡◌, ℕ, ◌<◌, ◌≤◌, length};
+ghost use Rattle.std.specs.Prelude.{◌<◌, ◌≤◌, length};
 ghost use Rattle.compare.specs.declared.phase.Kind.TheVariants.{Value};
 ghost use Rattle.search.specs.Watching.{wanted};
 ghost use Rattle.document.specs.Documents.{AtEnd, OnWay};

@@ -1,18 +1,16 @@
 //! Writing a document: down the way to its end, the end, and up again.
-ghost use Rattle.std.specs.Prelude.{◌≡◌, ℕ, ◌<◌, ◌≤◌, List, [], ◌++◌, length, drop, reverse, Some};
+ghost use Rattle.std.specs.Prelude.{◌≡◌, ℕ, ◌<◌, ◌≤◌, List, [], length, reverse, Some};
 ghost use Rattle.std.specs.List.{slice_get};
-ghost use Rattle.codec.specs.declared.item.Level.{Level as Leveled};
 ghost use Rattle.codec.specs.Encoding.{tree_bytes};
 ghost use Rattle.codec.specs.Piles.{slots};
 ghost use Rattle.codec.specs.Trees.{Tree};
 ghost use Rattle.compare.specs.declared.pairs.Listed.{Listed as ListedPair};
 ghost use Rattle.compare.specs.Listing.{entries_of};
-ghost use Rattle.document.specs.declared.level.Spot.{Spot as Spotted};
 ghost use Rattle.document.specs.Documents.{Built, DocumentOf};
 ghost use Rattle.document.specs.Forks.{Fork, head, tail, Surrounds};
-ghost use Rattle.document.specs.Marks.{Marked};
+ghost use Rattle.document.specs.Marks.{LedFrom, MarksOf, mark};
 ghost use Rattle.document.specs.Nodes.{Ready, first_automaton, second_automaton};
-ghost use Rattle.document.specs.Passing.{MarkOf, MarksOf, passage_of};
+ghost use Rattle.document.specs.Passing.{passage_of};
 ghost use Rattle.document.specs.Sampling.{Leaves};
 ghost use Rattle.document.specs.Sheets.{Within};
 
@@ -36,7 +34,7 @@ struct Passage {
 impl<D: Domain> Telling<'_, '_, '_, '_, '_, D> {
     /// The node from which the way goes on to the pair of a level. ROW_PAIRS slots are lent.
     fn passage(&self, level: Level<Spot>, scratch: &mut [RowPair]) -> Option<Passage>
-        ensures { Ready D.Domain.holds self.now → 272 ≤ length scratch.old → (e x : ListedPair) → MarkOf (entries_of self.now.pairs.now) level e → slice_get (entries_of self.now.pairs.now) e.parent ≡ Some x → (f : Fork (first_automaton D.Domain.holds self.now) (second_automaton D.Domain.holds self.now) x.first x.second e) → result ≡ Some (passage_of f) }
+        ensures { Ready D.Domain.holds self.now → 272 ≤ length scratch.old → (i left : ℕ) (e x : ListedPair) → level ≡ mark i left → LedFrom (entries_of self.now.pairs.now) i e x → (f : Fork (first_automaton D.Domain.holds self.now) (second_automaton D.Domain.holds self.now) x.first x.second e) → result ≡ Some (passage_of f) }
     {
         let Spot::Pair(place) = level.at else {
             return None;
@@ -90,7 +88,7 @@ impl<D: Domain> Telling<'_, '_, '_, '_, '_, D> {
         levels: &mut Pile<Level<Spot>>,
         sheet: &mut Sheet,
     ) -> Option<()>
-        ensures written { Ready D.Domain.holds self.now → 272 ≤ length scratch.old → 64 ≤ length levels.old.free → Within sheet.old → (back : List ListedPair) (before after : List ℕ) → MarksOf (entries_of self.now.pairs.now) levels.old.entries back → Surrounds (first_automaton D.Domain.holds self.now) (second_automaton D.Domain.holds self.now) (entries_of self.now.pairs.now) back before after → Leaves before levels.old.entries sheet.old result levels.new sheet.new }
+        ensures written { Ready D.Domain.holds self.now → 272 ≤ length scratch.old → 64 ≤ length levels.old.free → Within sheet.old → (back : List ListedPair) (before after : List ℕ) → MarksOf (first_automaton D.Domain.holds self.now) (second_automaton D.Domain.holds self.now) (entries_of self.now.pairs.now) levels.old.entries back → Surrounds (first_automaton D.Domain.holds self.now) (second_automaton D.Domain.holds self.now) (entries_of self.now.pairs.now) back before after → Leaves before levels.old.entries sheet.old result levels.new sheet.new }
         ensures slots { slots levels.new ≡ slots levels.old }
     {
         for index in (0..levels.len()).rev() {
@@ -100,18 +98,22 @@ impl<D: Domain> Telling<'_, '_, '_, '_, '_, D> {
         Some(())
     }
 
-    /// Writes what they have after those trees, from the last node up.
+    /// Writes what they have after those trees, from the last node up. A node with no children after is not looked for again.
     fn write_up(
         &self,
         scratch: &mut [RowPair],
         levels: &mut Pile<Level<Spot>>,
         sheet: &mut Sheet,
     ) -> Option<()>
-        ensures written { Ready D.Domain.holds self.now → 272 ≤ length scratch.old → 64 ≤ length levels.old.free → Within sheet.old → (back : List ListedPair) (before after : List ℕ) → MarksOf (entries_of self.now.pairs.now) levels.old.entries back → Surrounds (first_automaton D.Domain.holds self.now) (second_automaton D.Domain.holds self.now) (entries_of self.now.pairs.now) back before after → Leaves after levels.old.entries sheet.old result levels.new sheet.new }
+        ensures written { Ready D.Domain.holds self.now → 272 ≤ length scratch.old → 64 ≤ length levels.old.free → Within sheet.old → (back : List ListedPair) (before after : List ℕ) → MarksOf (first_automaton D.Domain.holds self.now) (second_automaton D.Domain.holds self.now) (entries_of self.now.pairs.now) levels.old.entries back → Surrounds (first_automaton D.Domain.holds self.now) (second_automaton D.Domain.holds self.now) (entries_of self.now.pairs.now) back before after → Leaves after levels.old.entries sheet.old result levels.new sheet.new }
         ensures slots { slots levels.new ≡ slots levels.old }
     {
         for index in 0..levels.len() {
-            let passage = self.passage(levels.read(index)?, scratch)?;
+            let level = levels.read(index)?;
+            if level.left == 0 {
+                continue;
+            }
+            let passage = self.passage(level, scratch)?;
             self.write_after(&passage, levels, sheet)?;
         }
         Some(())
@@ -149,7 +151,7 @@ impl<D: Domain> Telling<'_, '_, '_, '_, '_, D> {
         levels: &mut Pile<Level<Spot>>,
         sheet: &mut Sheet,
     ) -> Option<()>
-        ensures written { Ready D.Domain.holds self.now → 272 ≤ length scratch.old → 64 ≤ length levels.old.free → Within sheet.old → (way : List ListedPair) (t : Tree) (marks : List (Leveled Spotted)) → DocumentOf (first_automaton D.Domain.holds self.now) (second_automaton D.Domain.holds self.now) self.now.kind (entries_of self.now.pairs.now) place way t → Marked (first_automaton D.Domain.holds self.now) (second_automaton D.Domain.holds self.now) (entries_of self.now.pairs.now) 0 0 way marks → levels.old.entries ≡ reverse marks → Leaves (tree_bytes t) levels.old.entries sheet.old result levels.new sheet.new }
+        ensures written { Ready D.Domain.holds self.now → 272 ≤ length scratch.old → 64 ≤ length levels.old.free → Within sheet.old → (way : List ListedPair) (t : Tree) → DocumentOf (first_automaton D.Domain.holds self.now) (second_automaton D.Domain.holds self.now) self.now.kind (entries_of self.now.pairs.now) place way t → MarksOf (first_automaton D.Domain.holds self.now) (second_automaton D.Domain.holds self.now) (entries_of self.now.pairs.now) levels.old.entries (reverse way) → Leaves (tree_bytes t) levels.old.entries sheet.old result levels.new sheet.new }
         ensures slots { slots levels.new ≡ slots levels.old }
     {
         self.write_down(scratch, levels, sheet)?;

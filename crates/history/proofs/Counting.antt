@@ -1,5 +1,5 @@
 -- How many pairs a comparison has examined: as many as the steps granted, while it runs. Assumes nothing.
-use Rattle.std.proofs.Common.{◌≡◌, ℕ, zero, suc, ◌+◌, ◌*◌, ◌<◌, ◌≤◌, Bool, true, false, cond, eqb, ◌&&◌, ◌⊎◌, List, [], ◌∷◌, length, Some, None, Option, sym, refl, ap, ◌∙◌, subst, ap₂, inl, inr, ⊎_elim, arith}
+use Rattle.std.proofs.Common.{◌≡◌, ℕ, zero, suc, ◌+◌, ◌*◌, ◌<◌, ◌≤◌, Bool, true, false, cond, eqb, ◌&&◌, ◌⊎◌, List, [], ◌∷◌, length, Some, None, Ok, Err, Option, sym, refl, ap, ◌∙◌, subst, ap₂, inl, inr, ⊎_elim, arith}
 use Rattle.std.proofs.lemmas.Bool.{and_from, both_ways, cond-true, cond-false, not_from_true, not_from_false, eq-eqb, eqb-false, or_left, or_parts, or_right, false≢true}
 use Rattle.std.proofs.lemmas.Option.{slice_get_within}
 use Rattle.refusal.specs.declared.fault.Fault.{Fault}
@@ -25,7 +25,7 @@ use Rattle.compare.specs.Work.{Work, said, is_free, begun}
 use Rattle.compare.proofs.Nexts.{with_nexts_longer}
 use Rattle.compare.proofs.Turning.{counts_stay}
 use Rattle.compare.proofs.Views.{few_pairs}
-use Rattle.history.specs.Calls.{Call, Runs, are, is_made_with, is_conclusion, is_giving_up, some, granted_by, granted, Comparison}
+use Rattle.history.specs.Calls.{Call, take_up, oust, step, conclude, trail, document, give_up, give_up_apart, Runs, are, is_made_with, is_conclusion, is_inclusion, is_giving_up, some, granted_by, granted, Comparison}
 use Rattle.history.specs.Law.{is_ousting, own_call}
 use Rattle.history.proofs.Effects.{permitted, steps_permitted, Effect, keeps, begins, steps, parts, ends, effect, started_so}
 use Rattle.history.proofs.Holders.{Held, holders, held_steps, started_held}
@@ -38,7 +38,7 @@ is_apart (phase.Ready v) = false
 is_apart (phase.Apart k) = true
 
 -- a test that finds nothing
-not_found : (b : Bool) (w : Work) (f : Fault) → b ≡ false → where_found b w f ≡ None
+pub not_found : (b : Bool) (w : Work) (f : Fault) → b ≡ false → where_found b w f ≡ None
 not_found b w f is = cond-false b (Some (record { fault = f; place = w.serial })) None is
 
 none_of : (o p q : Option Refusal) → o ≡ None → p ≡ None → q ≡ None → first_of (o ∷ p ∷ q ∷ []) ≡ None
@@ -117,13 +117,31 @@ module _ (n m : ℕ) where
           runs = λ running. (omega (arith, (after.runs running).0, s.until running), (after.runs running).1);
         }
 
+-- a conclude that answers included is accepted
+inclusion_concludes : (d : Call) → is_inclusion d ≡ true → is_conclusion d ≡ true
+inclusion_concludes (take_up h r) is = absurd (false≢true is)
+inclusion_concludes (oust h r) is = absurd (false≢true is)
+inclusion_concludes (step m h k slots r) is = absurd (false≢true is)
+inclusion_concludes (conclude c (Ok v)) is = refl
+inclusion_concludes (conclude c (Err e)) is = absurd (false≢true is)
+inclusion_concludes (trail c o r o') is = absurd (false≢true is)
+inclusion_concludes (document m h slots levels o r o') is = absurd (false≢true is)
+inclusion_concludes (give_up c r) is = absurd (false≢true is)
+inclusion_concludes (give_up_apart c r) is = absurd (false≢true is)
+
 module _ (n : Numbers) where
+  -- the claim of a comparison that holds the area is neither foreign nor ousted
+  pub claimed : (w : Work) → Held n w → (of_another w n.area ≡ None) × (not_held w n.serial ≡ None)
+  claimed w held = (
+    not_found _ w Foreign (not_from_true _ (eq-eqb n.area w.number (sym held.number))),
+    not_found _ w Ousted (not_from_true _ (and_from _ _ (not_from_false _ held.busy) (eq-eqb n.serial w.serial (sym held.serial)))),
+  )
+
   -- conclude is refused nothing where a verdict stands
   concludes : (w : Work) (v : Verdict) → Held n w → w.phase ≡ phase.Ready v → claim_refusal w n Conclude ≡ None
   concludes w v held is =
-      none_of (of_another w n.area) (not_held w n.serial) (phase_refuses w Conclude)
-      (not_found _ w Foreign (not_from_true _ (eq-eqb n.area w.number (sym held.number))))
-      (not_found _ w Ousted (not_from_true _ (and_from _ _ (not_from_false _ held.busy) (eq-eqb n.serial w.serial (sym held.serial)))))
+      let its = claimed w held in
+      none_of (of_another w n.area) (not_held w n.serial) (phase_refuses w Conclude) its.0 its.1
       (ap (λ (p : Phase). by_phase w (decided p Conclude)) is ∙ by v)
     where
       by : (v : Verdict) → by_phase w (decided (phase.Ready v) Conclude) ≡ None
@@ -174,7 +192,7 @@ module _ (n : Numbers) where
         (ap is_conclusion is)
     first_of_all then (ends m' h made which free) =
         let its : is_made_with n d ≡ true = made n ∙ holders n (said a) m' held h in
-        ⊎_elim (now_concluded its) (λ gives. absurd (both_ways _ (or_parts _ (some (λ x. is_made_with n x && is_giving_up x) cs) kept).0 (and_from _ _ its gives))) which
+        ⊎_elim (λ included. now_concluded its (inclusion_concludes d included)) (λ gives. absurd (both_ways _ (or_parts _ (some (λ x. is_made_with n x && is_giving_up x) cs) kept).0 (and_from _ _ its gives))) which
 
   -- the calls since, after so many steps granted
   in_time_on : (i j : ℕ) (cs : List Call) (g : ℕ) (a now : Area) → Held n (said a) → Counted i j g (said a) → Runs cs a now → some is_ousting cs ≡ false → some (λ x. is_made_with n x && is_giving_up x) cs ≡ false → i * j ≤ g + granted n cs → Timely cs now

@@ -22,7 +22,7 @@ use Rattle.compare.specs.Refusals.{by_phase, of_another, not_held, other_symbols
 use Rattle.compare.specs.Stepping.{Stepping, step_kept_from, step_refusal}
 use Rattle.compare.specs.Work.{Work, said, free, is_free, held_by}
 use Rattle.compare.proofs.Allowing.{fails}
-use Rattle.history.specs.Calls.{Handed, Call, take_up, oust, step, conclude, trail, document, give_up, give_up_apart, Does, are, is_made_with, is_conclusion, is_giving_up, granted_by, Starts, Comparison}
+use Rattle.history.specs.Calls.{Handed, Call, take_up, oust, step, conclude, trail, document, give_up, give_up_apart, Does, are, is_made_with, is_inclusion, is_giving_up, granted_by, Starts, Comparison}
 use Rattle.history.specs.Law.{is_ousting}
 
 -- the claim with these numbers is the holder
@@ -67,13 +67,13 @@ taken_free w T U none = by w.phase asked
     by (phase.Apart k) h = absurd (some_not_none h)
 
 -- what a call does: nothing; it begins a comparison, by oust or on a free area; or for the holder it steps, concludes apart, or ends the
--- comparison, which it concludes or gives up
+-- comparison, which it concludes included or gives up
 pub data Effect (d : Call) (a a' : Area) : Type 0 where
   keeps : a' ≡ a → ((n : Numbers) → granted_by n d ≡ 0) → Effect d a a'
   begins : (h : Handed) (claim : Lease Comparing) (e : Event) → Beginning e h.first h.second h.first_sets a (Ok claim) a' → ((n : Numbers) → is_made_with n d ≡ false) → (is_ousting d ≡ true) ⊎ (is_free a.phase ≡ true) → Effect d a a'
   steps : (m : Numbers) (h : Handed) (n slots : ℕ) (answer : ℕ × ℕ) → d ≡ step m h n slots (Ok answer) → Stepping h.first h.second h.first_sets h.second_sets m n slots a (Ok answer) a' → Effect d a a'
   parts : (c : Lease Comparing) (k : Kind) (n : ℕ) (claim : Lease Apart) → d ≡ conclude c (Ok (concluded.Apart k n claim)) → Conclusion a c (Ok (concluded.Apart k n claim)) a' → Effect d a a'
-  ends : (m : Numbers) → Holder (said a) m → ((n : Numbers) → is_made_with n d ≡ are n m) → (is_conclusion d ≡ true) ⊎ (is_giving_up d ≡ true) → said a' ≡ free a.number a.serial → Effect d a a'
+  ends : (m : Numbers) → Holder (said a) m → ((n : Numbers) → is_made_with n d ≡ are n m) → (is_inclusion d ≡ true) ⊎ (is_giving_up d ≡ true) → said a' ≡ free a.number a.serial → Effect d a a'
 
 -- what giving up does
 given_up : {S : Type 0} (d : Call) (a a' : Area) (c : Lease S) (n : ℕ) → ((m : Numbers) → is_made_with m d ≡ are m c.numbers) → is_giving_up d ≡ true → ((m : Numbers) → granted_by m d ≡ 0) → of_another (said a) c.numbers.area ≡ None → GivesUp a c.numbers.serial n a' → Effect d a a'

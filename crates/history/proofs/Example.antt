@@ -1,9 +1,7 @@
 -- The example is a history: the area after each of its calls, and what each call does. Assumes nothing.
-use Rattle.std.proofs.Common.{◌≡◌, ℕ, zero, suc, ◌+◌, ◌^◌, Decides, ◌++◌, ◌<◌, ◌≤◌, Bool, true, false, ◌&&◌, ◌||◌, eqb, inl, inr, List, [], ◌∷◌, length, replicate, get_or, take, None, Ok, sym, refl, ap, ◌∙◌, subst, lit<, arith}
+use Rattle.std.proofs.Common.{◌≡◌, ℕ, zero, suc, ◌+◌, ◌^◌, ◌<◌, ◌≤◌, Bool, true, false, ◌&&◌, ◌||◌, eqb, inl, inr, List, [], ◌∷◌, length, replicate, get_or, take, None, Ok, sym, refl, ap, ◌∙◌, subst, lit<, arith}
 use Rattle.std.proofs.lemmas.List.{length-replicate, get_or-replicate}
 use Rattle.std.proofs.lemmas.Bool.{false≢true, ne_eqb}
-use Rattle.std.proofs.lemmas.Option.{none-some}
-use Rattle.schema.specs.Live.{LiveSequence, LiveSymbol}
 use Rattle.codec.specs.Numbers.{overwritten}
 use Rattle.domain.specs.Kinds.{bit}
 use Rattle.schema.proofs.Members.{added, bit_zero}
@@ -25,7 +23,7 @@ use Rattle.compare.proofs.Keeping.{kept_from}
 use Rattle.history.specs.Calls.{take_up, Does, Runs}
 use Rattle.history.specs.Example.{pair_of, claim, example, ExampleRuns}
 use Rattle.history.specs.Marked.{zero_alone, U, V, over_zero}
-use Rattle.history.proofs.Marked.{alone_U, alone_V, nowhere, one_child, u_v_unbroken, v_u_document}
+use Rattle.history.proofs.Marked.{alone_U, alone_V, dead_symbols, one_child, u_v_unbroken, v_u_document}
 
 -- the slots of a list with one entry, the pair (0, 0)
 abbrev slots : List Listed
@@ -110,13 +108,6 @@ module _ (a : Area) (made : said a ≡ free 7 0) where
   -- U and V have one unbroken pair
   u_v_examined : Examines (over_zero U) (over_zero V) (said (listing 3 phase.Running 0)) (said (listing 3 (phase.Ready verdict.Included) 1))
   u_v_examined = record { pair = start; at = refl; outcome = inr (u_v_unbroken, ((λ a. false), dead_symbols, refl)) }
-    where
-      dead_symbols : (a : ℕ) → Decides false (LiveSymbol (over_zero U) 0 a)
-      dead_symbols a = (λ no. absurd (false≢true no), λ live. absurd (none_live live.0 live.1 live.2))
-        where
-          none_live : (u v : List ℕ) → LiveSequence (over_zero U) 0 (u ++ a ∷ v) → ⊥
-          none_live [] v l = none-some _ (sym (nowhere a) ∙ l.1.0.1)
-          none_live (b ∷ u) v l = none-some _ (sym (nowhere b) ∙ l.1.0.1)
 
   -- V and U have one pair, which is broken
   v_u_examined : Examines (over_zero V) (over_zero U) (said (listing 2 phase.Running 0)) (said (listing 2 (phase.Ready (verdict.Apart Content)) 1))

@@ -18,8 +18,8 @@ use Rattle.compare.specs.Beginning.{Beginning}
 use Rattle.compare.specs.Concluding.{Conclusion}
 use Rattle.compare.specs.Stepping.{Turn, Turns, Stepping}
 use Rattle.compare.specs.Work.{Work, said, free, is_free, begun}
-use Rattle.history.specs.Calls.{Handed, Call, take_up, oust, step, conclude, trail, document, give_up, give_up_apart, Does, Runs, are, is_beginning, is_made_with, some, Comparison}
-use Rattle.history.proofs.Effects.{Holder, permitted, steps_permitted, Effect, keeps, begins, steps, parts, ends, effect, Started, started_so}
+use Rattle.history.specs.Calls.{Handed, Call, take_up, oust, step, conclude, trail, document, give_up, give_up_apart, Does, Runs, are, is_beginning, is_made_with, some}
+use Rattle.history.proofs.Effects.{Holder, permitted, steps_permitted, Effect, keeps, begins, steps, parts, ends, effect, Started}
 
 -- the comparison whose claim has these numbers holds the area
 pub record Held (n : Numbers) (w : Work) : Type 0 where
@@ -157,7 +157,7 @@ module _ (n : Numbers) where
   run_gone (c ∷ cs) a a' runs gone = run_gone cs runs.0 a' runs.2 (gone_on n a runs.0 c (effect c a runs.0 runs.1) gone)
 
   -- where another comparison began, it has ended
-  run_begun : (cs : List Call) (a a' : Area) → Runs cs a a' → Held n (said a) → some is_beginning cs ≡ true → Gone n (said a')
+  pub run_begun : (cs : List Call) (a a' : Area) → Runs cs a a' → Held n (said a) → some is_beginning cs ≡ true → Gone n (said a')
   run_begun [] a a' runs held so = absurd (false≢true so)
   run_begun (c ∷ cs) a a' runs held so =
       ⊎_elim
@@ -178,7 +178,3 @@ started_held g n a a' s =
     by : (live : Bool) → is_free (cond live phase.Running (phase.Ready verdict.Included)) ≡ false
     by true = refl
     by false = refl
-
-pub ousted : (a : Area) (c : Comparison a) → some is_beginning c.since ≡ true → (d : Call) → is_made_with c.claim d ≡ true → (a' : Area) → Does d c.now a' → a' ≡ c.now
-ousted a c so d its a' does =
-    gone_same c.claim c.now a' d (effect d c.now a' does) (run_begun c.claim c.since c.begun c.now c.goes_on (started_held c.schemas c.claim c.at c.begun (started_so c)) so) its

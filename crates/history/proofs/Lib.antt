@@ -1,9 +1,12 @@
 pub mod Counting
+pub mod Documented
 pub mod Effects
 pub mod Example
 pub mod Histories
 pub mod Holders
 pub mod Marked
+pub mod Ousting
+pub mod Tallies
 pub mod Transport
 pub mod Verdicts
 pub mod Writings

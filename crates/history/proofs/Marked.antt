@@ -1,5 +1,5 @@
 -- The marked cases, shown. Assumes nothing.
-use Rattle.std.proofs.Common.{◌≡◌, ℕ, zero, suc, ◌+◌, ◌-◌, ◌<◌, ◌≤◌, Bool, true, false, cond, not, ◌&&◌, ltb, inl, inr, List, [], ◌∷◌, Some, None, Option, Ok, Err, sym, refl, ap, ◌∙◌, subst, ⊎_elim, lit<, arith}
+use Rattle.std.proofs.Common.{◌≡◌, ℕ, zero, suc, ◌+◌, ◌-◌, ◌<◌, ◌≤◌, Bool, true, false, cond, not, ◌&&◌, ltb, inl, inr, List, [], ◌∷◌, Some, None, Option, Ok, Err, Decides, sym, refl, ap, ◌∙◌, subst, ⊎_elim, lit<, arith}
 use Rattle.std.specs.List.{slice_get}
 use Rattle.std.proofs.lemmas.Bool.{both_ways, cases_lt, cond-true, cond-false, le-ltb, lt-ltb, false≢true, and_left, and_right}
 use Rattle.std.proofs.lemmas.Bool.Decides.{nat_tests}
@@ -13,10 +13,11 @@ use Rattle.refusal.specs.declared.fault.Fault.TheVariants as fault
 use Rattle.refusal.specs.declared.fault.Refusal.{Refusal}
 use Rattle.refusal.specs.Faults.{number}
 use Rattle.schema.specs.Automata.{Automaton, allowed}
-use Rattle.schema.specs.Live.{Live, LiveSequence}
+use Rattle.schema.specs.Live.{Live, LiveSequence, LiveSymbol}
 use Rattle.schema.specs.Tables.{Tables}
 use Rattle.schema.proofs.Members.{bit_zero}
 use Rattle.schema.proofs.Dead.{leads_back_dead}
+use Rattle.schema.proofs.Onward.{live_leads}
 use Rattle.schema.proofs.Sound.{sound}
 use Rattle.search.specs.Sequences.{NoLater, First}
 use Rattle.compare.specs.declared.pairs.Listed.{Listed}
@@ -44,7 +45,7 @@ beyond : (T : Tables) (a : ℕ) → T.symbols ≤ a → (over_zero T).next 0 a �
 beyond T a past = cond-false (ltb a T.symbols) _ _ (le-ltb a T.symbols past)
 
 -- U leads nowhere
-pub nowhere : (a : ℕ) → (over_zero U).next 0 a ≡ None
+nowhere : (a : ℕ) → (over_zero U).next 0 a ≡ None
 nowhere zero = refl
 nowhere (suc zero) = refl
 nowhere (suc (suc a)) = beyond U (suc (suc a)) (omega arith)
@@ -210,25 +211,50 @@ u_v_unbroken =
       contents = λ w live. subst (λ x. allowed (over_zero V) 0 x ≡ true) (sym (just_empty w live)) refl;
     }
 
--- what comes of a comparison whose first schema is live, from what its first turn brings
-settled : (S T : Tables) (v : Verdict) (count : ℕ) → Live (over_zero S) 0 → ((w x : Work) → Turn (over_zero S) (over_zero T) (begun w S T true) x → (x.phase ≡ Ready v) × (x.examined ≡ count)) → ComesTo S T v count
-settled S T v count alive turn w w' true d s = settles (over_zero S) (over_zero T) (begun w S T true) v count (turn w) 4095 w' refl s
-settled S T v count alive turn w w' false d s = absurd (false≢true (d.1 alive))
+-- no symbol is live at U's state
+pub dead_symbols : (a : ℕ) → Decides false (LiveSymbol (over_zero U) 0 a)
+dead_symbols a = (λ no. absurd (false≢true no), λ live. absurd (none-some _ (sym (nowhere a) ∙ (live_leads (over_zero U) 0 a live).1)))
+
+-- what comes of a comparison whose first schema is live, from what its first turn brings, where it may take one
+settled : (S T : Tables) (v : Verdict) (count : ℕ) → Live (over_zero S) 0 → ((w : Work) → (x : Work) × Turn (over_zero S) (over_zero T) (begun w S T true) x) → ((w x : Work) → Turn (over_zero S) (over_zero T) (begun w S T true) x → (x.phase ≡ Ready v) × (x.examined ≡ count)) → ComesTo S T v count
+settled S T v count alive some turn w true d =
+    let x = some w in (
+      (x.0, record { taken = 1; few = omega arith; turns = (begun w S T true, refl, refl, x.1); until = λ runs. absurd (not_ready x.0.phase v (turn w x.0 x.1).0 runs) }),
+      λ w' s. settles (over_zero S) (over_zero T) (begun w S T true) v count (turn w) 4095 w' refl s,
+    )
+settled S T v count alive some turn w false d = absurd (false≢true (d.1 alive))
+
+-- a turn that finds (0, 0) broken in content
+turn_breaks : (S T : Tables) → Broken (over_zero S) (over_zero T) Content 0 0 → (w : Work) → (x : Work) × Turn (over_zero S) (over_zero T) (begun w S T true) x
+turn_breaks S T broken w = (examined_to (begun w S T true) (start ∷ []) (Ready (Apart Content)), inr (record { pair = start; at = refl; outcome = inl (Content, broken, refl) }))
+
+-- and one that finds it unbroken, of U against V
+turn_closes : (w : Work) → (x : Work) × Turn (over_zero U) (over_zero V) (begun w U V true) x
+turn_closes w =
+    let es = with_nexts (over_zero U) (over_zero V) (λ a. false) 0 0 0 2 (start ∷ []) in
+    (examined_to (begun w U V true) es (going_on 1 es), inr (record { pair = start; at = refl; outcome = inr (u_v_unbroken, ((λ a. false), dead_symbols, refl)) }))
 
 u_v : ComesTo U V Included 1
-u_v = settled U V Included 1 alone_U (λ w. closes U V w u_v_unbroken nowhere)
+u_v = settled U V Included 1 alone_U turn_closes (λ w. closes U V w u_v_unbroken nowhere)
 
 v_u : ComesTo V U (Apart Content) 1
-v_u = settled V U (Apart Content) 1 alone_V (λ w. breaks V U w (0 ∷ [], one_child, refl) (λ b. both_ways _ b.2 b.1))
+v_u =
+    let broken : Broken (over_zero V) (over_zero U) Content 0 0 = (0 ∷ [], one_child, refl) in
+    settled V U (Apart Content) 1 alone_V (turn_breaks V U broken) (λ w. breaks V U w broken (λ b. both_ways _ b.2 b.1))
 
 u_w : ComesTo U W (Apart Content) 1
-u_w = settled U W (Apart Content) 1 alone_U (λ w. breaks U W w ([], (refl, tt), refl) (λ b. both_ways _ b.2 b.1))
+u_w =
+    let broken : Broken (over_zero U) (over_zero W) Content 0 0 = ([], (refl, tt), refl) in
+    settled U W (Apart Content) 1 alone_U (turn_breaks U W broken) (λ w. breaks U W w broken (λ b. both_ways _ b.2 b.1))
 
 w_u : ComesTo W U Included 0
-w_u w w' true d s = absurd (dead_W (d.0 refl))
-w_u w w' false d s =
-    let same = stays (over_zero W) (over_zero U) (begun w W U false) Included refl s.taken w' s.turns in
-    (ap {B = Phase} (λ (y : Work). y.phase) same, ap {B = ℕ} (λ (y : Work). y.examined) same)
+w_u w true d = absurd (dead_W (d.0 refl))
+w_u w false d = (
+  (begun w W U false, record { taken = 0; few = omega arith; turns = refl; until = λ runs. absurd (not_ready (Ready Included) Included refl runs) }),
+  λ w' s.
+      let same = stays (over_zero W) (over_zero U) (begun w W U false) Included refl s.taken w' s.turns in
+      (ap {B = Phase} (λ (y : Work). y.phase) same, ap {B = ℕ} (λ (y : Work). y.examined) same),
+)
 
 -- the gap of two joint domains with nothing on the left: that of the letters, on the right
 joint_gap : Smallest (alone (just_letters (from_to 65 90 ∷ [])) (just_letters (from_to 65 89 ∷ []))) (Some 2147483738)

@@ -1,7 +1,7 @@
 -- The verdict of a comparison whose steps were handed its schemas is right. Assumes nothing.
-use Rattle.std.proofs.Common.{◌≡◌, ℕ, true, ◌⊎◌, List, [], ◌∷◌, Ok, sym, refl, ap, subst, inl, inr, ⊎_elim}
+use Rattle.std.proofs.Common.{◌≡◌, ℕ, ◌-◌, true, eqb, ◌⊎◌, List, [], ◌∷◌, Ok, sym, refl, ap, subst, inl, inr, ⊎_elim}
 use Rattle.std.specs.List.{AllByRecursion}
-use Rattle.std.proofs.lemmas.Bool.{and_from, both_ways, eq-eqb, false≢true}
+use Rattle.std.proofs.lemmas.Bool.{and_from, and_parts, both_ways, eq-eqb, eqb-true, false≢true, not-true}
 use Rattle.schema.specs.Automata.{Automaton}
 use Rattle.compare.specs.declared.area.Area.{Area}
 use Rattle.compare.specs.declared.claim.Apart as parted
@@ -12,14 +12,16 @@ use Rattle.compare.specs.declared.conclude.Concluded.{Concluded}
 use Rattle.compare.specs.declared.conclude.Concluded.TheVariants.{Included, Apart}
 use Rattle.compare.specs.declared.event.Event.TheVariants.{Step, Conclude}
 use Rattle.compare.specs.declared.phase.Kind.{Kind}
+use Rattle.compare.specs.declared.phase.Phase.TheVariants as phase
+use Rattle.compare.specs.declared.phase.Verdict.TheVariants as verdict
 use Rattle.compare.specs.Breaking.{ToldApart}
 use Rattle.compare.specs.Concluding.{Conclusion}
-use Rattle.compare.specs.Growing.{Grown, BeginsGrown, StepsGrown, ConcludesGrown, IncludedCarries, ApartTells}
+use Rattle.compare.specs.Growing.{LastBroken, Stands, Grown, BeginsGrown, StepsGrown, ConcludesGrown, IncludedCarries, ApartTells}
 use Rattle.compare.specs.Stepping.{Stepping}
-use Rattle.compare.specs.Work.{said}
+use Rattle.compare.specs.Work.{Work, said, held_by}
 use Rattle.compare.proofs.Grown.{begins_grown, steps_grown, concludes_grown, included_carries, apart_tells}
 use Rattle.history.specs.Calls.{Handed, first_of, second_of, Same, Call, Runs, are, StepsOver, Comparison}
-use Rattle.history.specs.Law.{Inclusion, Right, StepsOverItsOwn}
+use Rattle.history.specs.Law.{Inclusion, ReachesBroken, Right, StepsOverItsOwn}
 use Rattle.history.proofs.Effects.{permitted, steps_permitted, Effect, keeps, begins, steps, parts, ends, effect, Started, started_so}
 use Rattle.history.proofs.Holders.{Held, Gone, holders, not_holders, held_steps, held_parts, begun_ends, end_ends, gone_on, started_held}
 use Rattle.history.proofs.Transport.{same_first, same_second}
@@ -68,23 +70,38 @@ module _ (A B : Automaton) where
       record {
         included = (λ _. all, λ _. refl);
         apart = (λ no. absurd (false≢true no), λ told. absurd (both_ways _ told.2 (all told.0 told.1)));
+        kind = tt;
       }
 
-  apart_right : ToldApart A B 0 0 → (k : Kind) (count : ℕ) (claim : Lease parted.Apart) → Right A B (Apart k count claim)
-  apart_right told k count claim =
+  apart_right : ToldApart A B 0 0 → (k : Kind) (count : ℕ) (claim : Lease parted.Apart) → ReachesBroken A B (Apart k count claim) → Right A B (Apart k count claim)
+  apart_right told k count claim broken =
       record {
         included = (λ no. absurd (false≢true no), λ all. absurd (both_ways _ told.2 (all told.0 told.1)));
         apart = (λ _. told, λ _. refl);
+        kind = broken;
       }
+
+  -- the pair that was examined last is reached
+  last_reached : (w : Work) (k : Kind) (count : ℕ) (claim : Lease parted.Apart) → Grown A B w → w.phase ≡ phase.Ready (verdict.Apart k) → ReachesBroken A B (Apart k count claim)
+  last_reached w k count claim grown is =
+      let last : LastBroken A B w k = subst (Stands A B w) is grown.stands in
+      let r = grown.reached (w.examined - 1) last.pair last.at in
+      (r.0, last.pair.first, last.pair.second, r.2, r.3, last.broken)
 
 -- its own numbers
 pub these : (n m : Numbers) → m ≡ n → are n m ≡ true
 these n m same = and_from _ _ (eq-eqb m.area n.area (ap (λ (x : Numbers). x.area) same)) (eq-eqb m.serial n.serial (ap (λ (x : Numbers). x.serial) same))
 
+-- a comparison that has ended is not the holder
+pub not_held_by : (n : Numbers) (w : Work) → Gone n w → held_by w n.serial ≡ true → ⊥
+not_held_by n w gone held =
+    let parts = and_parts _ (eqb n.serial w.serial) held in
+    not_holders n w n gone (record { area = sym gone.number; serial = eqb-true n.serial w.serial parts.1; busy = not-true _ parts.0 }) (these n n refl)
+
 conclusion_right : (A B : Automaton) (a a' : Area) (claim : Lease Comparing) (v : Concluded) → Grown A B (said a) → Conclusion a claim (Ok v) a' → Right A B v
 unfolding IncludedCarries ApartTells
 conclusion_right A B a a' claim (Included count) grown does = included_right A B (included_carries A B (said a) grown does.1.0) count
-conclusion_right A B a a' claim (Apart k count apart) grown does = apart_right A B (apart_tells A B (said a) k grown (inl does.1.0)) k count apart
+conclusion_right A B a a' claim (Apart k count apart) grown does = apart_right A B (apart_tells A B (said a) k grown (inl does.1.0)) k count apart (last_reached A B (said a) k count apart grown does.1.0)
 
 pub concluded : (a : Area) (c : Comparison a) → StepsOverItsOwn c → (claim : Lease Comparing) → claim.numbers ≡ c.claim → (v : Concluded) (a' : Area) → Conclusion c.now claim (Ok v) a' → Right (first_of c.schemas) (second_of c.schemas) v
 concluded a c over claim same v a' does =

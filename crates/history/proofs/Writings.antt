@@ -1,7 +1,7 @@
 -- What a comparison writes: once it is apart its list and its broken pair stay, so all is written along one way. Assumes nothing.
-use Rattle.std.proofs.Common.{◌≡◌, ℕ, zero, suc, ◌-◌, ◌<◌, true, false, ◌&&◌, eqb, ◌⊎◌, List, [], ◌∷◌, length, None, Ok, Err, is_ok, sym, refl, ap, ◌∙◌, subst, inl, inr, ⊎_elim}
+use Rattle.std.proofs.Common.{◌≡◌, ℕ, zero, suc, ◌-◌, ◌<◌, true, false, ◌&&◌, ◌⊎◌, List, [], ◌∷◌, length, None, Ok, Err, is_ok, sym, refl, ap, ◌∙◌, subst, inl, inr, ⊎_elim}
 use Rattle.std.specs.List.{AllByRecursion, slice_get}
-use Rattle.std.proofs.lemmas.Bool.{and_parts, both_ways, cond-true, eqb-true, lt-ltb, not-false, not-true, or_cases, false≢true}
+use Rattle.std.proofs.lemmas.Bool.{and_parts, both_ways, not-false, or_cases, false≢true}
 use Rattle.std.proofs.lemmas.List.{length-map}
 use Rattle.std.proofs.lemmas.Option.{none-some, slice_get_within}
 use Rattle.codec.specs.Encoding.{tree_bytes}
@@ -29,6 +29,7 @@ use Rattle.compare.specs.Stepping.{Turns}
 use Rattle.compare.specs.Trailing.{Trail, broken_index}
 use Rattle.compare.specs.Work.{Work, said, held_by}
 use Rattle.compare.proofs.Allowing.{fails}
+use Rattle.compare.proofs.Grown.{last_index}
 use Rattle.compare.proofs.Trails.{one_trail}
 use Rattle.document.specs.Documents.{Way, symbols_of, DocumentOf}
 use Rattle.document.specs.Writing.{kept_from}
@@ -40,7 +41,7 @@ use Rattle.history.proofs.Counting.{is_apart}
 use Rattle.history.proofs.Effects.{Holder, holder, permitted, Effect, keeps, begins, steps, parts, ends, effect, started_so}
 use Rattle.history.proofs.Holders.{Held, Gone, not_holders, begun_ends, end_ends, gone_on}
 use Rattle.history.proofs.Transport.{same_first, same_second}
-use Rattle.history.proofs.Verdicts.{Known, known_on, started_known, these}
+use Rattle.history.proofs.Verdicts.{Known, known_on, not_held_by, started_known}
 
 -- writing is for an area that is apart
 writing_apart : (w : Work) (p : Phase) → by_phase w (decided p Write) ≡ None → (k : Kind) × (p ≡ phase.Apart k)
@@ -82,7 +83,7 @@ writer (give_up c r) a a' does so = absurd (false≢true so)
 writer (give_up_apart c r) a a' does so = absurd (false≢true so)
 
 -- no turn is taken of an area that does not run
-turns_none : (A B : Automaton) (j : ℕ) (w w' : Work) → (w.phase ≡ phase.Running → ⊥) → Turns A B j w w' → w' ≡ w
+pub turns_none : (A B : Automaton) (j : ℕ) (w w' : Work) → (w.phase ≡ phase.Running → ⊥) → Turns A B j w w' → w' ≡ w
 turns_none A B zero w w' still turns = turns
 turns_none A B (suc j) w w' still turns = absurd (still (ap (λ (x : Work). x.phase) (sym (turns_none A B j w turns.0 still turns.1)) ∙ turns.2))
 
@@ -203,8 +204,7 @@ module _ (g : Handed) (n : Numbers) where
   still_held : (k : Kind) (es : List Listed) (i : ℕ) (now : Area) → Fixed n k es i (said now) ⊎ Gone n (said now) → held_by (said now) n.serial ≡ true → ((said now).phase ≡ phase.Apart k) × ((said now).pairs ≡ es) × (broken_index (said now) ≡ i)
   still_held k es i now (inl fixed) held = (fixed.apart, fixed.pairs, fixed.index)
   still_held k es i now (inr gone) held =
-      let parts = and_parts _ (eqb n.serial now.serial) held in
-      absurd (not_holders n (said now) n gone (record { area = sym gone.number; serial = eqb-true n.serial now.serial parts.1; busy = not-true _ parts.0 }) (these n n refl))
+      absurd (not_held_by n (said now) gone held)
 
   -- from an area on that is apart
   wrote_from : (cs : List Call) (a now : Area) (k : Kind) → Runs cs a now → Held n (said a) → Grown (first_of g) (second_of g) (said a) → a.phase ≡ phase.Apart k → WroteBy g n cs now
@@ -212,7 +212,7 @@ module _ (g : Handed) (n : Numbers) where
       let w = said a in
       let last : LastBroken (first_of g) (second_of g) w k = subst (Stands (first_of g) (second_of g) w) apart grown.stands in
       let inside : w.examined - 1 < length w.pairs = slice_get_within w.pairs (w.examined - 1) last.pair last.at in
-      let place : broken_index w ≡ w.examined - 1 = cond-true _ (w.examined - 1) 0 (lt-ltb (w.examined - 1) (length w.pairs) inside) in
+      let place : broken_index w ≡ w.examined - 1 = last_index (first_of g) (second_of g) w k last in
       let way = every_way a.pairs (w.examined - 1) inside in
       let reached = grown.reached (w.examined - 1) last.pair last.at in
       let along : reached.0 ≡ symbols_of way.0 = one_trail w.pairs (w.examined - 1) reached.0 (symbols_of way.0) reached.1 (way_trail w.pairs (w.examined - 1) way.0 way.1) in

@@ -10,6 +10,7 @@ use Rattle.compare.specs.declared.claim.Comparing.{Comparing}
 use Rattle.compare.specs.declared.claim.Lease.{Lease}
 use Rattle.compare.specs.declared.claim.Numbers.{Numbers}
 use Rattle.compare.specs.declared.conclude.Concluded.{Concluded}
+use Rattle.compare.specs.declared.conclude.Concluded.TheVariants as concluded
 use Rattle.compare.specs.declared.event.Event.TheVariants.{Take, Oust}
 use Rattle.compare.specs.Beginning.{Beginning}
 use Rattle.compare.specs.Concluding.{Conclusion, GivingUp}
@@ -125,6 +126,32 @@ is_conclusion (trail c o r o') = false
 is_conclusion (document m h slots levels o r o') = false
 is_conclusion (give_up c r) = false
 is_conclusion (give_up_apart c r) = false
+
+-- the call is an accepted conclude that answers included
+abbrev pub is_inclusion : Call → Bool
+is_inclusion (take_up h r) = false
+is_inclusion (oust h r) = false
+is_inclusion (step m h steps slots r) = false
+is_inclusion (conclude c (Ok (concluded.Included n))) = true
+is_inclusion (conclude c (Ok (concluded.Apart k n claim))) = false
+is_inclusion (conclude c (Err e)) = false
+is_inclusion (trail c o r o') = false
+is_inclusion (document m h slots levels o r o') = false
+is_inclusion (give_up c r) = false
+is_inclusion (give_up_apart c r) = false
+
+-- the call is an accepted conclude that answers apart
+abbrev pub is_parting : Call → Bool
+is_parting (take_up h r) = false
+is_parting (oust h r) = false
+is_parting (step m h steps slots r) = false
+is_parting (conclude c (Ok (concluded.Included n))) = false
+is_parting (conclude c (Ok (concluded.Apart k n claim))) = true
+is_parting (conclude c (Err e)) = false
+is_parting (trail c o r o') = false
+is_parting (document m h slots levels o r o') = false
+is_parting (give_up c r) = false
+is_parting (give_up_apart c r) = false
 
 -- the call is an accepted give up
 abbrev pub is_giving_up : Call → Bool

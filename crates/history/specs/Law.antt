@@ -1,7 +1,9 @@
 -- The law over every history of an area: what holds whatever calls were made on it, in whatever order, accepted or refused.
 -- Assumes nothing.
-use Rattle.std.specs.Prelude.{◌≡◌, ℕ, ◌*◌, ◌≤◌, Bool, true, false, not, ◌&&◌, ◌⊎◌, List, length, Some, None, Ok, Err, Decides}
+use Rattle.std.specs.Prelude.{◌≡◌, ℕ, ◌+◌, ◌*◌, ◌≤◌, Bool, true, false, cond, not, ◌&&◌, ◌⊎◌, List, [], ◌∷◌, length, Some, None, Ok, Err, Decides}
 use Rattle.std.specs.List.{AllByRecursion, slice_get}
+use Rattle.refusal.specs.declared.fault.Fault.TheVariants.{Ousted, Room}
+use Rattle.refusal.specs.declared.fault.Refusal.{Refusal}
 use Rattle.codec.specs.Encoding.{tree_bytes}
 use Rattle.codec.specs.Numbers.{overwritten}
 use Rattle.codec.specs.Trees.{Tree}
@@ -20,10 +22,11 @@ use Rattle.compare.specs.declared.phase.Phase.TheVariants as phase
 use Rattle.compare.specs.Breaking.{Broken, ToldApart}
 use Rattle.compare.specs.Concluding.{claim_refusal, Conclusion}
 use Rattle.compare.specs.Growing.{Path}
+use Rattle.compare.specs.Strangers.{is_holder}
 use Rattle.compare.specs.Trailing.{broken_index}
 use Rattle.compare.specs.Work.{said, start, held_by}
 use Rattle.document.specs.Documents.{Way, symbols_of, DocumentOf}
-use Rattle.history.specs.Calls.{Handed, first_of, second_of, Same, Call, take_up, oust, step, conclude, trail, document, give_up, give_up_apart, Does, are, is_beginning, is_made_with, is_conclusion, is_giving_up, some, granted, StepsOver, Comparison}
+use Rattle.history.specs.Calls.{Handed, first_of, second_of, Same, Call, take_up, oust, step, conclude, trail, document, give_up, give_up_apart, Does, are, is_beginning, is_made_with, is_conclusion, is_inclusion, is_parting, is_giving_up, some, granted, StepsOver, Comparison}
 
 -- every tree that the first automaton accepts is accepted by the second
 abbrev pub Inclusion : Automaton → Automaton → Type 0
@@ -34,10 +37,18 @@ abbrev pub is_included : Concluded → Bool
 is_included (Included n) = true
 is_included (Apart k n claim) = false
 
--- the conclusion is right: included exactly where there is inclusion, and apart exactly where the first automaton alone accepts a tree
+-- live symbols lead the first automaton to a state, and the second along with it to another, where the two are broken in the kind that an
+-- apart tells; nothing is said of included
+abbrev pub ReachesBroken : Automaton → Automaton → Concluded → Type 0
+ReachesBroken A B (Included n) = Unit {0}
+ReachesBroken A B (Apart k n claim) = (w : List ℕ) × (p : ℕ) × (q : ℕ) × LivePath A 0 w p × Path B 0 w q × Broken A B k p q
+
+-- the conclusion is right: included exactly where there is inclusion, and apart exactly where the first automaton alone accepts a tree, by
+-- the kind of a broken pair that both reach
 pub record Right (A B : Automaton) (v : Concluded) : Type 0 where
   pub included : Decides (is_included v) (Inclusion A B)
   pub apart : Decides (not (is_included v)) (ToldApart A B 0 0)
+  pub kind : ReachesBroken A B v
 
 -- its own accepted steps were handed the schemas that it began with
 abbrev pub StepsOverItsOwn : {a : Area} → Comparison a → Type 0
@@ -121,14 +132,62 @@ pub record WroteBy (g : Handed) (n : Numbers) (calls : List Call) (now : Area) :
 abbrev pub Wrote : {a : Area} → Comparison a → Type 0
 Wrote c = WroteBy c.schemas c.claim c.since c.now
 
+-- how many pairs the call tells that it examined: the first number that an accepted step answers which is told these numbers
+abbrev pub told_by : Numbers → Call → ℕ
+told_by n (take_up h r) = 0
+told_by n (oust h r) = 0
+told_by n (step m h steps slots (Ok answer)) = cond (are n m) answer.0 0
+told_by n (step m h steps slots (Err e)) = 0
+told_by n (conclude c r) = 0
+told_by n (trail c o r o') = 0
+told_by n (document m h slots levels o r o') = 0
+told_by n (give_up c r) = 0
+told_by n (give_up_apart c r) = 0
+
+-- the pairs told, added up
+abbrev pub told : Numbers → List Call → ℕ
+told n [] = 0
+told n (c ∷ cs) = told_by n c + told n cs
+
+-- the count of pairs that a conclusion tells
+abbrev pub count_of : Concluded → ℕ
+count_of (Included n) = n
+count_of (Apart k n claim) = n
+
+-- what a call comes to whose claim or numbers are not the holder's: giving up answers 0, any other is refused, conclude and trail with
+-- `ousted`, and an output stays as found; nothing is said of take and oust
+abbrev pub TurnedAway : Call → Type 0
+TurnedAway (take_up h r) = Unit {0}
+TurnedAway (oust h r) = Unit {0}
+TurnedAway (step m h steps slots (Ok answer)) = ⊥
+TurnedAway (step m h steps slots (Err e)) = Unit {0}
+TurnedAway (conclude c (Ok v)) = ⊥
+TurnedAway (conclude c (Err e)) = e.0.fault ≡ Ousted
+TurnedAway (trail c o (Ok r) o') = ⊥
+TurnedAway (trail c o (Err e) o') = (e.0.fault ≡ Ousted) × (o' ≡ o)
+TurnedAway (document m h slots levels o (Ok size) o') = ⊥
+TurnedAway (document m h slots levels o (Err e) o') = o' ≡ o
+TurnedAway (give_up c (Ok n)) = n ≡ 0
+TurnedAway (give_up c (Err e)) = ⊥
+TurnedAway (give_up_apart c (Ok n)) = n ≡ 0
+TurnedAway (give_up_apart c (Err e)) = ⊥
+
 -- what holds of every comparison on an area, whatever calls were made before it, beside it and after it
 pub record EveryHistory (a : Area) : Type 0 where
   -- an accepted conclude of a comparison whose steps were handed its schemas is right
   pub concluded : (c : Comparison a) → StepsOverItsOwn c → (claim : Lease Comparing) → claim.numbers ≡ c.claim → (v : Concluded) (a' : Area) → Conclusion c.now claim (Ok v) a' → Right (first_of c.schemas) (second_of c.schemas) v
+  -- it tells as many pairs as the comparison's own accepted steps have told, added up
+  pub counted : (c : Comparison a) → (claim : Lease Comparing) → claim.numbers ≡ c.claim → (v : Concluded) (a' : Area) → Conclusion c.now claim (Ok v) a' → count_of v ≡ told c.claim c.since
   -- what it has written is built along one way, and tells its schemas apart
   pub written : (c : Comparison a) → StepsOverItsOwn c → own_call c is_writing ≡ true → Wrote c
+  -- concluded apart, and as long as its claim is the holder, the area is apart
+  pub apart : (c : Comparison a) → own_call c is_parting ≡ true → is_holder (said c.now) c.claim ≡ true → (k : Kind) × ((said c.now).phase ≡ phase.Apart k)
+  -- and a document that is asked for with its numbers, its schemas and scratch enough is refused for want of room alone
+  pub documented : (c : Comparison a) → StepsOverItsOwn c → own_call c is_parting ≡ true → is_holder (said c.now) c.claim ≡ true → (h : Handed) → Same c.schemas h → (slots levels : ℕ) → 272 ≤ slots → 4160 ≤ levels → (o : List ℕ) (e : Refusal) (o' : List ℕ) (a' : Area) → Does (document c.claim h slots levels o (Err e) o') c.now a' → e.fault ≡ Room
   -- neither ousted nor given up, it has its verdict once the steps granted reach the product of the state counts: its conclude has been
   -- accepted, or would be now
   pub in_time : (c : Comparison a) → some is_ousting c.since ≡ false → own_call c is_giving_up ≡ false → c.schemas.first.states * c.schemas.second.states ≤ granted c.claim c.since → (own_call c is_conclusion ≡ true) ⊎ (claim_refusal (said c.now) c.claim Conclude ≡ None)
-  -- once another comparison has begun, no call with its claim or numbers changes the area
-  pub ousted : (c : Comparison a) → some is_beginning c.since ≡ true → (d : Call) → is_made_with c.claim d ≡ true → (a' : Area) → Does d c.now a' → a' ≡ c.now
+  -- until it is given up, concluded included or ousted, its claim is the holder
+  pub holds : (c : Comparison a) → some is_ousting c.since ≡ false → own_call c is_giving_up ≡ false → own_call c is_inclusion ≡ false → is_holder (said c.now) c.claim ≡ true
+  -- once another comparison has begun, a call with its claim or numbers is turned away, and the area stays as it was
+  pub ousted : (c : Comparison a) → some is_beginning c.since ≡ true → (d : Call) → is_made_with c.claim d ≡ true → (a' : Area) → Does d c.now a' → TurnedAway d × (a' ≡ c.now)

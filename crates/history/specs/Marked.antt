@@ -58,9 +58,10 @@ W = one_of_two
 abbrev pub over_zero : Tables → Automaton
 over_zero T = automaton T zero_alone
 
--- a comparison, begun anywhere and stepped as far as one step goes, comes to the verdict, with so many pairs examined
+-- a comparison, begun anywhere and stepped as far as one step goes, comes to something, and to nothing but the verdict, with so many pairs
+-- examined
 abbrev pub ComesTo : Tables → Tables → Verdict → ℕ → Type 0
-ComesTo S T v n = (w w' : Work) (live : Bool) → Decides live (Live (over_zero S) 0) → Stepped (over_zero S) (over_zero T) 4096 (begun w S T live) w' → (w'.phase ≡ Ready v) × (w'.examined ≡ n)
+ComesTo S T v n = (w : Work) (live : Bool) → Decides live (Live (over_zero S) 0) → ((w' : Work) × Stepped (over_zero S) (over_zero T) 4096 (begun w S T live) w') × ((w' : Work) → Stepped (over_zero S) (over_zero T) 4096 (begun w S T live) w' → (w'.phase ≡ Ready v) × (w'.examined ≡ n))
 
 -- the bytes are those of the document for the pair (0, 0), broken in content
 abbrev pub HasDocument : Tables → Tables → List ℕ → Type 0

@@ -75,9 +75,9 @@ returns-in_err-ok_or g c = λ counts room levels.
     let way = climb.0 in
     let t = climb.1 in
     let found : Found A B (said a) = record { way = way; tree = t; document = found_in A A' B a b same of way t climb.2 } in
-    let few = way_levels A' B b.kind (entries_of b.pairs.now) b.index way t climb.4 c.climb.new.levels.entries climb.2 climb.5 climb.6 in
+    let few = way_levels A' B b.kind (entries_of b.pairs.now) b.index way t c.climb.new.levels.entries climb.2 climb.4 in
     let free : 64 ≤ length c.climb.new.levels.free = omega (arith, c.climb.ensures.slots, ap length c.new-levels.ensures.empty, ap length c.new-levels.ensures.over, few, many_of b.pairs.now, (kept_of b.pairs.now).short) in
-    let wrote = c.write.ensures.written ready (omega arith) free (omega arith) way t climb.4 climb.2 climb.5 climb.6 in
+    let wrote = c.write.ensures.written ready (omega arith) free (omega arith) way t climb.2 climb.4 in
     let none = err_none c.write.result c.at-room.result c.in_err-ok_or.field-0.0 (sym c.in_err-ok_or.was ∙ c.ok_or-3.ensures.value) in
     let short : length c.args.output.now < 0 + length (tree_bytes t) = crowded_at (tree_bytes t) _ _ c.write.new.sheet c.write.result c.write.new.levels wrote none.0 in
     absurd (omega (arith, short, climb.3, c.if-size-gt-LONGEST.false, c.if-output-size.false))
@@ -99,9 +99,9 @@ returns g c = λ counts room levels.
     let way = climb.0 in
     let t = climb.1 in
     let found : Found A B (said a) = record { way = way; tree = t; document = found_in A A' B a b same of way t climb.2 } in
-    let few = way_levels A' B b.kind (entries_of b.pairs.now) b.index way t climb.4 c.climb.new.levels.entries climb.2 climb.5 climb.6 in
+    let few = way_levels A' B b.kind (entries_of b.pairs.now) b.index way t c.climb.new.levels.entries climb.2 climb.4 in
     let free : 64 ≤ length c.climb.new.levels.free = omega (arith, c.climb.ensures.slots, ap length c.new-levels.ensures.empty, ap length c.new-levels.ensures.over, few, many_of b.pairs.now, (kept_of b.pairs.now).short) in
-    let wrote = c.write.ensures.written ready (omega arith) free (omega arith) way t climb.4 climb.2 climb.5 climb.6 in
+    let wrote = c.write.ensures.written ready (omega arith) free (omega arith) way t climb.2 climb.4 in
     let added = added_at (tree_bytes t) _ _ c.write.new.sheet c.write.result c.write.new.levels c.in_ok-ok_or.field-0 wrote (ok_there c.write.result c.at-room.result c.in_ok-ok_or.field-0 (sym c.in_ok-ok_or.was ∙ c.ok_or-3.ensures.value)) in
     let long : c.write.new.sheet.place ≡ length (tree_bytes t) = omega (arith, added.written.next_place) in (
       found,

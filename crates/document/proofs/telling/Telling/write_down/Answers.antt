@@ -2,15 +2,18 @@
 use Rattle.std.proofs.Common.{◌≡◌, ℕ, ◌+◌, ◌-◌, ◌<◌, ◌≤◌, List, ◌++◌, length, drop, Some, sym, refl, ap, ◌∙◌, subst, arith}
 use Rattle.std.specs.List.{slice_get}
 use Rattle.std.proofs.lemmas.Option.{none-some, same_Some, slice_get-get_or}
+use Rattle.codec.specs.Trees.{word}
 use Rattle.compare.specs.declared.pairs.Listed.{Listed}
 use Rattle.compare.specs.Listing.{entries_of}
 use Rattle.compare.proofs.Views.{entries_fit}
 use Rattle.document.specs.declared.level.Spot.TheVariants.{State}
 use Rattle.document.specs.Forks.{head, Surrounds}
+use Rattle.document.specs.Marks.{MarksOf}
 use Rattle.document.specs.Nodes.{Ready, first_automaton, second_automaton}
-use Rattle.document.specs.Passing.{MarksOf, passage_of}
+use Rattle.document.specs.Passing.{passage_of}
 use Rattle.document.specs.Sheets.{Within, Added}
-use Rattle.document.proofs.Downward.{marks_long, marks_at, FurtherUp, surrounds_at, Parted, parted_at, nothing_around}
+use Rattle.document.proofs.Downward.{FurtherUp, surrounds_at, Parted, parted_at, nothing_around}
+use Rattle.document.proofs.Marks.{marks_long, marks_at, mark_counts}
 use Rattle.document.proofs.Sheets.{added_none, added_more, crowded_more, crowded_front}
 use Rattle.document.proofs.telling.Telling.write_down.Given as given
 use Rattle.document.proofs.telling.Telling.write_down.Goals as goal
@@ -27,7 +30,7 @@ record Here (g : given.Over) (c : After-passage g) (back : List Listed) (before 
   done : Added parted.front c.args.sheet.now c.loop-index.sheet
 
 module _ (g : given.Over) (c : After-passage g) (ready : Ready g.D.Domain.holds c.args.self.now) (room : 272 ≤ length c.args.scratch.now) (space : 64 ≤ length c.args.levels.now.free) (within : Within c.args.sheet.now) (back : List Listed) where
-  here : (before after b a : List ℕ) → MarksOf (entries_of c.args.self.now.pairs.now) c.args.levels.now.entries back → Surrounds (first_automaton g.D.Domain.holds c.args.self.now) (second_automaton g.D.Domain.holds c.args.self.now) (entries_of c.args.self.now.pairs.now) back before after → Surrounds (first_automaton g.D.Domain.holds c.args.self.now) (second_automaton g.D.Domain.holds c.args.self.now) (entries_of c.args.self.now.pairs.now) (drop (c.loop-index.index - 1) back) b a → Here g c back b a
+  here : (before after b a : List ℕ) → MarksOf (first_automaton g.D.Domain.holds c.args.self.now) (second_automaton g.D.Domain.holds c.args.self.now) (entries_of c.args.self.now.pairs.now) c.args.levels.now.entries back → Surrounds (first_automaton g.D.Domain.holds c.args.self.now) (second_automaton g.D.Domain.holds c.args.self.now) (entries_of c.args.self.now.pairs.now) back before after → Surrounds (first_automaton g.D.Domain.holds c.args.self.now) (second_automaton g.D.Domain.holds c.args.self.now) (entries_of c.args.self.now.pairs.now) (drop (c.loop-index.index - 1) back) b a → Here g c back b a
   here before after b a marks around s =
       let self = c.args.self.now in
       let A = first_automaton g.D.Domain.holds self in
@@ -37,12 +40,13 @@ module _ (g : given.Over) (c : After-passage g) (ready : Ready g.D.Domain.holds 
       let next : i + 1 ≡ c.loop-index.index = omega (arith, c.loop-index-test.true) in
       let so = c.loop-index.invariant.written ready room space within back before after marks around in
       let read : slice_get c.args.levels.now.entries i ≡ Some c.in_ok-read.field-0 = sym (sym c.in_ok-read.was ∙ c.read.ensures ∙ ap (λ l. slice_get l i) so.0) in
-      let m = marks_at es c.args.levels.now.entries back marks i c.in_ok-read.field-0 read in
+      let m = marks_at A B es c.args.levels.now.entries back marks i c.in_ok-read.field-0 read in
       let p : Parted A B es (drop c.loop-index.index back) m.0 b a = subst (λ (n : ℕ). Parted A B es (drop n back) m.0 b a) next (parted_at A B es i back m.0 b a m.1 s) in
+      let counts = mark_counts A B es c.in_ok-read.field-0 m.0 p.from m.2 p.parent p.fork in
       record {
         pair = m.0;
         parted = p;
-        found = c.passage.ensures ready (omega (arith, room, c.loop-index.auto.scratch)) m.0 p.from m.2 p.parent p.fork;
+        found = c.passage.ensures ready (omega (arith, room, c.loop-index.auto.scratch)) counts.place (length (word p.fork.after)) m.0 p.from counts.level counts.led p.fork;
         low = subst (λ (n : ℕ). p.from.first < n) ready.firsts (entries_fit self.pairs.now m.0.parent p.from p.parent).first_inside;
         entries = so.0;
         space = omega (arith, space, c.loop-index.invariant.slots, ap length so.0);
@@ -61,7 +65,7 @@ loop-index-init g c =
         refl,
         λ b a s.
             let es = entries_of c.args.self.now.pairs.now in
-            let none = nothing_around _ _ es c.len-index.result back b a (omega (arith, c.len-index.ensures, marks_long es c.args.levels.now.entries back marks)) s in
+            let none = nothing_around _ _ es c.len-index.result back b a (omega (arith, c.len-index.ensures, marks_long _ _ es c.args.levels.now.entries back marks)) s in
             subst (λ (l : List ℕ). Added l c.args.sheet.now c.args.sheet.now) (sym none.0) (added_none c.args.sheet.now within),
       );
     }

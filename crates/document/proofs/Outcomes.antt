@@ -1,0 +1,94 @@
+-- The call has one outcome; and with numbers that are not the holder's it is refused. Assumes nothing.
+use Rattle.std.proofs.Common.{◌≡◌, ℕ, ◌+◌, ◌<◌, Bool, true, false, cond, not, ◌&&◌, eqb, ◌⊎◌, List, [], ◌∷◌, length, Some, None, Ok, Err, Option, Result, sym, refl, ap, ◌∙◌, ⊎_elim, arith}
+use Rattle.std.proofs.lemmas.Bool.{both_ways}
+use Rattle.std.proofs.lemmas.Option.{none-some, same_Some}
+use Rattle.refusal.specs.declared.fault.Fault.TheVariants.{Foreign, Ousted, Room}
+use Rattle.refusal.specs.declared.fault.Refusal.{Refusal}
+use Rattle.refusal.specs.Order.{first_of}
+use Rattle.codec.specs.Encoding.{tree_bytes}
+use Rattle.codec.specs.Numbers.{overwritten}
+use Rattle.codec.specs.Trees.{Tree}
+use Rattle.schema.specs.Automata.{Automaton}
+use Rattle.schema.specs.Faults.{either_fault}
+use Rattle.schema.specs.Tables.{automaton}
+use Rattle.compare.specs.declared.claim.Numbers.{Numbers}
+use Rattle.compare.specs.declared.event.Event.TheVariants.{Write}
+use Rattle.compare.specs.Refusals.{where_found, other_symbols, of_another, not_held, other_counts, phase_refuses, short_scratch}
+use Rattle.compare.specs.Strangers.{is_holder, stranger}
+use Rattle.compare.specs.Work.{Work, said, held_by}
+use Rattle.document.specs.Seeds.{needed}
+use Rattle.document.specs.Writing.{short_levels, early_refusal, Found, DocumentAnswer, OneDocumenting, DocumentOfStranger}
+use Rattle.document.proofs.Unique.{found_or_not, one_found}
+
+module _ (A B : Automaton) (w : Work) (output : List ℕ) where
+  -- a document that was written is none that is too long
+  not_both : (n : ℕ) (d f : Found A B w) → n ≡ length (tree_bytes d.tree) → n < 65537 → (n < length output + 1) → (length output < needed f.tree) ⊎ (needed f.tree ≡ 65537) → ⊥
+  not_both n d f long few fits too =
+      let same : length (tree_bytes f.tree) ≡ length (tree_bytes d.tree) = ap (λ (t : Tree). length (tree_bytes t)) (one_found A B w f d) in
+      ⊎_elim (λ short. omega (arith, short, long, few, fits, same)) (λ past. omega (arith, past, long, few, fits, same)) too
+
+  one_answer : (r s : Result ℕ Refusal) (one other : List ℕ) → DocumentAnswer A B w output r one → DocumentAnswer A B w output s other → (r ≡ s) × (one ≡ other)
+  one_answer (Ok n) (Ok m) one other p q =
+      let same = one_found A B w p.0 q.0 in (
+        ap Ok (p.1 ∙ ap (λ (t : Tree). length (tree_bytes t)) same ∙ sym q.1),
+        p.4 ∙ ap (λ (t : Tree). overwritten output 0 (tree_bytes t)) same ∙ sym q.4,
+      )
+  one_answer (Ok n) (Err e) one other p q =
+      absurd (⊎_elim (λ lacks. found_or_not A B w p.0 lacks.0) (λ too. not_both n p.0 too.0 p.1 (omega (arith, p.2)) (omega (arith, p.3)) too.1) q.0)
+  one_answer (Err e) (Ok m) one other p q =
+      absurd (⊎_elim (λ lacks. found_or_not A B w q.0 lacks.0) (λ too. not_both m q.0 too.0 q.1 (omega (arith, q.2)) (omega (arith, q.3)) too.1) p.0)
+  one_answer (Err e) (Err f) one other p q = (ap Err by, p.1 ∙ sym q.1)
+    where
+      by : e ≡ f
+      by =
+          ⊎_elim
+          (λ lacks. ⊎_elim (λ lacks'. lacks.1 ∙ sym lacks'.1) (λ too. absurd (found_or_not A B w too.0 lacks.0)) q.0)
+          (λ too.
+          ⊎_elim
+          (λ lacks. absurd (found_or_not A B w too.0 lacks.0))
+          (λ too'. too.2 ∙ ap (λ (t : Tree). record { fault = Room; place = needed t }) (one_found A B w too.0 too'.0) ∙ sym too'.2)
+          q.0)
+          p.0
+
+pub one_documenting : OneDocumenting
+unfolding OneDocumenting
+one_documenting T U sets others claim slots levels a output r s one other p q =
+    ⊎_elim
+    (λ refused.
+    ⊎_elim
+    (λ refused'. (refused.2 ∙ ap Err (same_Some _ _ (sym refused.1 ∙ refused'.1)) ∙ sym refused'.2, refused.3 ∙ sym refused'.3))
+    (λ answer. absurd (none-some _ (sym answer.0 ∙ refused.1)))
+    q)
+    (λ answer.
+    ⊎_elim
+    (λ refused. absurd (none-some _ (sym answer.0 ∙ refused.1)))
+    (λ answer'. one_answer (automaton T sets) (automaton U others) (said a) output r s one other answer.1 answer'.1)
+    q)
+    p
+
+-- the first refusal of numbers that are not the holder's
+strange : (w : Work) (n : Numbers) (o p : Option Refusal) (rest : List (Option Refusal)) → is_holder w n ≡ false → first_of (o ∷ first_of (p ∷ of_another w n.area ∷ not_held w n.serial ∷ rest) ∷ []) ≡ first_of (o ∷ p ∷ Some (stranger w n) ∷ [])
+strange w n o p rest other = by o p (eqb n.area w.number) (held_by w n.serial) other
+  where
+    by : (o p : Option Refusal) (s h : Bool) → (s && h) ≡ false → first_of (o ∷ first_of (p ∷ where_found (not s) w Foreign ∷ where_found (not h) w Ousted ∷ rest) ∷ []) ≡ first_of (o ∷ p ∷ Some (record { fault = cond s Ousted Foreign; place = w.serial }) ∷ [])
+    by (Some e) p s h other = refl
+    by None (Some e) s h other = refl
+    by None None true true other = absurd (both_ways true other refl)
+    by None None true false other = refl
+    by None None false h other = refl
+
+-- and there is one
+some_strange : (o p : Option Refusal) (x : Refusal) → first_of (o ∷ p ∷ Some x ∷ []) ≡ None → ⊥
+some_strange (Some e) p x none = none-some _ (sym none)
+some_strange None (Some e) x none = none-some _ (sym none)
+some_strange None None x none = none-some _ (sym none)
+
+pub document_of_stranger : DocumentOfStranger
+unfolding DocumentOfStranger
+document_of_stranger T U sets others claim slots levels a output r output' does other =
+    let w = said a in
+    let same : early_refusal w T U claim slots levels ≡ first_of (either_fault T U ∷ other_symbols w T U ∷ Some (stranger w claim) ∷ []) = strange w claim (either_fault T U) (other_symbols w T U) (other_counts w T U ∷ phase_refuses w Write ∷ short_scratch slots ∷ short_levels levels ∷ []) other in
+    ⊎_elim
+    (λ refused. (refused.0, refused.2, sym same ∙ refused.1, refused.3))
+    (λ answer. absurd (some_strange (either_fault T U) (other_symbols w T U) (stranger w claim) (sym same ∙ answer.0)))
+    does
