@@ -1,5 +1,5 @@
 -- How many pairs a comparison has examined: as many as the steps granted, while it runs. Assumes nothing.
-use Rattle.std.proofs.Common.{◌≡◌, ℕ, zero, suc, ◌+◌, ◌*◌, ◌<◌, ◌≤◌, Bool, true, false, cond, eqb, ◌&&◌, ◌⊎◌, List, [], ◌∷◌, length, Some, None, Ok, Err, Option, sym, refl, ap, ◌∙◌, subst, ap₂, inl, inr, ⊎_elim, arith}
+use Rattle.std.proofs.Common.{◌≡◌, ℕ, zero, suc, ◌+◌, ◌*◌, ◌<◌, ◌≤◌, Bool, true, false, cond, eqb, ◌&&◌, ◌⊎◌, List, [], ◌∷◌, length, Some, None, Ok, Option, sym, refl, ap, ◌∙◌, subst, ap₂, inl, inr, ⊎_elim, arith}
 use Rattle.std.proofs.lemmas.Bool.{and_from, both_ways, cond-true, cond-false, not_from_true, not_from_false, eq-eqb, eqb-false, or_left, or_parts, or_right, false≢true}
 use Rattle.std.proofs.lemmas.Option.{slice_get_within}
 use Rattle.refusal.specs.declared.fault.Fault.{Fault}
@@ -25,17 +25,15 @@ use Rattle.compare.specs.Work.{Work, said, is_free, begun}
 use Rattle.compare.proofs.Nexts.{with_nexts_longer}
 use Rattle.compare.proofs.Turning.{counts_stay}
 use Rattle.compare.proofs.Views.{few_pairs}
-use Rattle.history.specs.Calls.{Call, take_up, oust, step, conclude, trail, document, give_up, give_up_apart, Runs, are, is_made_with, is_conclusion, is_inclusion, is_giving_up, some, granted_by, granted, Comparison}
+use Rattle.history.specs.Calls.{Call, conclude, Runs, are, is_made_with, is_conclusion, is_inclusion, is_giving_up, some, granted_by, granted, Comparison}
 use Rattle.history.specs.Law.{is_ousting, own_call}
 use Rattle.history.proofs.Effects.{permitted, steps_permitted, Effect, keeps, begins, steps, parts, ends, effect, started_so}
 use Rattle.history.proofs.Holders.{Held, holders, held_steps, started_held}
 
 -- the area was concluded apart
 abbrev pub is_apart : Phase → Bool
-is_apart phase.Free = false
-is_apart phase.Running = false
-is_apart (phase.Ready v) = false
 is_apart (phase.Apart k) = true
+is_apart p = false
 
 -- a test that finds nothing
 pub not_found : (b : Bool) (w : Work) (f : Fault) → b ≡ false → where_found b w f ≡ None
@@ -119,15 +117,8 @@ module _ (n m : ℕ) where
 
 -- a conclude that answers included is accepted
 inclusion_concludes : (d : Call) → is_inclusion d ≡ true → is_conclusion d ≡ true
-inclusion_concludes (take_up h r) is = absurd (false≢true is)
-inclusion_concludes (oust h r) is = absurd (false≢true is)
-inclusion_concludes (step m h k slots r) is = absurd (false≢true is)
 inclusion_concludes (conclude c (Ok v)) is = refl
-inclusion_concludes (conclude c (Err e)) is = absurd (false≢true is)
-inclusion_concludes (trail c o r o') is = absurd (false≢true is)
-inclusion_concludes (document m h slots levels o r o') is = absurd (false≢true is)
-inclusion_concludes (give_up c r) is = absurd (false≢true is)
-inclusion_concludes (give_up_apart c r) is = absurd (false≢true is)
+inclusion_concludes d is = absurd (false≢true is)
 
 module _ (n : Numbers) where
   -- the claim of a comparison that holds the area is neither foreign nor ousted

@@ -32,7 +32,7 @@ use Rattle.compare.proofs.Turning.{counts_stay}
 use Rattle.document.specs.Documents.{HasDocument}
 use Rattle.document.specs.Writing.{NoDocument, early_refusal}
 use Rattle.document.proofs.Existing.{has_document}
-use Rattle.history.specs.Calls.{Handed, first_of as left_of, second_of as right_of, Same, Call, take_up, oust, step, conclude, trail, document, give_up, give_up_apart, Does, Runs, is_made_with, is_parting, some, Comparison}
+use Rattle.history.specs.Calls.{Handed, first_of as left_of, second_of as right_of, Same, Call, conclude, document, Does, Runs, is_made_with, is_parting, some, Comparison}
 use Rattle.history.specs.Law.{StepsOverItsOwn, own_call}
 use Rattle.history.proofs.Counting.{claimed, is_apart, not_found}
 use Rattle.history.proofs.Effects.{Effect, keeps, begins, steps, parts, ends, effect, Started, started_so}
@@ -152,16 +152,8 @@ module _ (n : Numbers) where
 
   -- the call that concludes it
   parts_it : (d : Call) (a a' : Area) → is_parting d ≡ true → Does d a a' → Held n (said a) → Parted a'
-  parts_it (take_up h r) a a' is does held = absurd (false≢true is)
-  parts_it (oust h r) a a' is does held = absurd (false≢true is)
-  parts_it (step m h k slots r) a a' is does held = absurd (false≢true is)
-  parts_it (conclude c (Ok (concluded.Included count))) a a' is does held = absurd (false≢true is)
   parts_it (conclude c (Ok (concluded.Apart k count claim))) a a' is does held = inl (held_parts n a a' c k count claim does held, turned_apart a' (said a) k does.1.4)
-  parts_it (conclude c (Err e)) a a' is does held = absurd (false≢true is)
-  parts_it (trail c o r o') a a' is does held = absurd (false≢true is)
-  parts_it (document m h slots levels o r o') a a' is does held = absurd (false≢true is)
-  parts_it (give_up c r) a a' is does held = absurd (false≢true is)
-  parts_it (give_up_apart c r) a a' is does held = absurd (false≢true is)
+  parts_it d a a' is does held = absurd (false≢true is)
 
   parted_since : (cs : List Call) (a now : Area) → Runs cs a now → Held n (said a) → some (λ d. is_made_with n d && is_parting d) cs ≡ true → Parted now
   parted_since [] a now runs held so = absurd (false≢true so)
@@ -177,10 +169,8 @@ module _ (n : Numbers) where
 
   -- a phase that is apart is so by a kind
   by_kind : (p : Phase) → is_apart p ≡ true → (k : Kind) × (p ≡ phase.Apart k)
-  by_kind phase.Free is = absurd (false≢true is)
-  by_kind phase.Running is = absurd (false≢true is)
-  by_kind (phase.Ready v) is = absurd (false≢true is)
   by_kind (phase.Apart k) is = (k, refl)
+  by_kind p is = absurd (false≢true is)
 
 pub apart : (a : Area) (c : Comparison a) → own_call c is_parting ≡ true → is_holder (said c.now) c.claim ≡ true → (k : Kind) × ((said c.now).phase ≡ phase.Apart k)
 apart a c so holder =

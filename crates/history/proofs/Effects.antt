@@ -22,7 +22,7 @@ use Rattle.compare.specs.Refusals.{by_phase, of_another, not_held, other_symbols
 use Rattle.compare.specs.Stepping.{Stepping, step_kept_from, step_refusal}
 use Rattle.compare.specs.Work.{Work, said, free, is_free, held_by}
 use Rattle.compare.proofs.Allowing.{fails}
-use Rattle.history.specs.Calls.{Handed, Call, take_up, oust, step, conclude, trail, document, give_up, give_up_apart, Does, are, is_made_with, is_inclusion, is_giving_up, granted_by, Starts, Comparison}
+use Rattle.history.specs.Calls.{Handed, Call, take_up, oust, step, conclude, give_up, give_up_apart, Does, are, is_made_with, is_inclusion, is_giving_up, granted_by, Starts, Comparison}
 use Rattle.history.specs.Law.{is_ousting}
 
 -- the claim with these numbers is the holder
@@ -62,9 +62,7 @@ taken_free w T U none = by w.phase asked
 
     by : (p : Phase) → by_phase w (decided p Take) ≡ None → is_free p ≡ true
     by phase.Free h = refl
-    by phase.Running h = absurd (some_not_none h)
-    by (phase.Ready v) h = absurd (some_not_none h)
-    by (phase.Apart k) h = absurd (some_not_none h)
+    by p h = absurd (some_not_none h)
 
 -- what a call does: nothing; it begins a comparison, by oust or on a free area; or for the holder it steps, concludes apart, or ends the
 -- comparison, which it concludes included or gives up
@@ -85,20 +83,16 @@ given_up d a a' c n made gives none near up = by (held_by (said a) c.numbers.ser
 
 pub effect : (d : Call) (a a' : Area) → Does d a a' → Effect d a a'
 effect (take_up h (Ok c)) a a' does = begins h c Take does (λ n. refl) (inr (taken_free (said a) h.first h.second does.0))
-effect (take_up h (Err e)) a a' does = keeps does.1 (λ n. refl)
 effect (oust h (Ok c)) a a' does = begins h c Oust does (λ n. refl) (inl refl)
-effect (oust h (Err e)) a a' does = keeps does.1 (λ n. refl)
 effect (step m h n slots (Ok answer)) a a' does = steps m h n slots answer refl does
-effect (step m h n slots (Err e)) a a' does = keeps does.1 (λ n. refl)
 effect (conclude c (Ok (concluded.Included n))) a a' does = ends c.numbers (permitted (said a) c.numbers Conclude does.0).0 (λ n. refl) (inl refl) does.1.2
 effect (conclude c (Ok (concluded.Apart k n claim))) a a' does = parts c k n claim refl does
 effect (conclude c (Err e)) a a' does = keeps does.2 (λ n. refl)
-effect (trail c o r o') a a' does = keeps does.1 (λ n. refl)
-effect (document m h slots levels o r o') a a' does = keeps does.1 (λ n. refl)
 effect (give_up c (Ok n)) a a' does = given_up (give_up c (Ok n)) a a' c n (λ m. refl) refl (λ m. refl) does.0 does.1
 effect (give_up c (Err e)) a a' does = keeps does.2 (λ n. refl)
 effect (give_up_apart c (Ok n)) a a' does = given_up (give_up_apart c (Ok n)) a a' c n (λ m. refl) refl (λ m. refl) does.0 does.1
 effect (give_up_apart c (Err e)) a a' does = keeps does.2 (λ n. refl)
+effect d a a' does = keeps does.1 (λ n. refl)
 
 -- what began a comparison of these schemas, whose claim has these numbers
 pub record Started (g : Handed) (n : Numbers) (a a' : Area) : Type 0 where
@@ -109,15 +103,8 @@ pub record Started (g : Handed) (n : Numbers) (a a' : Area) : Type 0 where
 
 pub started : (d : Call) (g : Handed) (n : Numbers) (a a' : Area) → Does d a a' → Starts d g n → Started g n a a'
 started (take_up h (Ok c)) g n a a' does is = record { event = Take; claim = c; numbers = is.1; beginning = subst (λ (x : Handed). Beginning Take x.first x.second x.first_sets a (Ok c) a') (sym is.0) does }
-started (take_up h (Err e)) g n a a' does is = absurd is
 started (oust h (Ok c)) g n a a' does is = record { event = Oust; claim = c; numbers = is.1; beginning = subst (λ (x : Handed). Beginning Oust x.first x.second x.first_sets a (Ok c) a') (sym is.0) does }
-started (oust h (Err e)) g n a a' does is = absurd is
-started (step m h k slots r) g n a a' does is = absurd is
-started (conclude c r) g n a a' does is = absurd is
-started (trail c o r o') g n a a' does is = absurd is
-started (document m h slots levels o r o') g n a a' does is = absurd is
-started (give_up c r) g n a a' does is = absurd is
-started (give_up_apart c r) g n a a' does is = absurd is
+started d g n a a' does is = absurd is
 
 -- that of a comparison
 pub started_so : {a : Area} (c : Comparison a) → Started c.schemas c.claim c.at c.begun

@@ -1,5 +1,5 @@
 -- Whether an area is a comparison's: the comparison holds it, or is gone from it for good. Assumes nothing.
-use Rattle.std.proofs.Common.{◌≡◌, ℕ, zero, suc, ◌+◌, ◌<◌, ◌≤◌, Bool, true, false, cond, eqb, ◌⊎◌, List, [], ◌∷◌, Ok, Err, sym, refl, ap, ◌∙◌, subst, inl, inr, ⊎_elim, arith}
+use Rattle.std.proofs.Common.{◌≡◌, ℕ, zero, suc, ◌+◌, ◌<◌, ◌≤◌, Bool, true, false, cond, eqb, ◌⊎◌, List, [], ◌∷◌, Ok, sym, refl, ap, ◌∙◌, subst, inl, inr, ⊎_elim, arith}
 use Rattle.std.proofs.lemmas.Bool.{and_from, and_parts, both_ways, eq-eqb, eqb-true, or_cases, false≢true}
 use Rattle.schema.specs.Automata.{Automaton}
 use Rattle.schema.specs.Tables.{automaton}
@@ -18,7 +18,7 @@ use Rattle.compare.specs.Beginning.{Beginning}
 use Rattle.compare.specs.Concluding.{Conclusion}
 use Rattle.compare.specs.Stepping.{Turn, Turns, Stepping}
 use Rattle.compare.specs.Work.{Work, said, free, is_free, begun}
-use Rattle.history.specs.Calls.{Handed, Call, take_up, oust, step, conclude, trail, document, give_up, give_up_apart, Does, Runs, are, is_beginning, is_made_with, some}
+use Rattle.history.specs.Calls.{Handed, Call, take_up, oust, Does, Runs, are, is_beginning, is_made_with, some}
 use Rattle.history.proofs.Effects.{Holder, permitted, steps_permitted, Effect, keeps, begins, steps, parts, ends, effect, Started}
 
 -- the comparison whose claim has these numbers holds the area
@@ -131,15 +131,8 @@ module _ (n : Numbers) (a a' : Area) where
   -- a call that begins one ends all others
   pub beginning_ends : (d : Call) → is_beginning d ≡ true → Does d a a' → (said a).number ≡ n.area → n.serial ≤ (said a).serial → Gone n (said a')
   beginning_ends (take_up h (Ok c)) so does near low = begun_gone Take h c does near low
-  beginning_ends (take_up h (Err e)) so does near low = absurd (false≢true so)
   beginning_ends (oust h (Ok c)) so does near low = begun_gone Oust h c does near low
-  beginning_ends (oust h (Err e)) so does near low = absurd (false≢true so)
-  beginning_ends (step m h k slots r) so does near low = absurd (false≢true so)
-  beginning_ends (conclude c r) so does near low = absurd (false≢true so)
-  beginning_ends (trail c o r o') so does near low = absurd (false≢true so)
-  beginning_ends (document m h slots levels o r o') so does near low = absurd (false≢true so)
-  beginning_ends (give_up c r) so does near low = absurd (false≢true so)
-  beginning_ends (give_up_apart c r) so does near low = absurd (false≢true so)
+  beginning_ends d so does near low = absurd (false≢true so)
 
   -- a call with the claim or the numbers of one that has ended changes nothing
   pub gone_same : (d : Call) → Effect d a a' → Gone n (said a) → is_made_with n d ≡ true → a' ≡ a

@@ -1,5 +1,5 @@
 -- What a conclusion tells: as many pairs as the comparison's own steps have told. Assumes nothing.
-use Rattle.std.proofs.Common.{◌≡◌, ℕ, zero, suc, ◌+◌, ◌≤◌, true, ◌⊎◌, List, [], ◌∷◌, Ok, Err, sym, refl, ap, ◌∙◌, subst, inl, inr, ⊎_elim, arith}
+use Rattle.std.proofs.Common.{◌≡◌, ℕ, zero, suc, ◌+◌, ◌≤◌, true, ◌⊎◌, List, [], ◌∷◌, Ok, sym, refl, ap, ◌∙◌, subst, inl, inr, ⊎_elim, arith}
 use Rattle.std.proofs.lemmas.Bool.{cond-true}
 use Rattle.schema.specs.Automata.{Automaton}
 use Rattle.schema.specs.Tables.{automaton}
@@ -13,7 +13,7 @@ use Rattle.compare.specs.declared.event.Event.TheVariants.{Step, Conclude}
 use Rattle.compare.specs.Concluding.{Conclusion}
 use Rattle.compare.specs.Stepping.{Turn, Turns, Stepping}
 use Rattle.compare.specs.Work.{Work, said}
-use Rattle.history.specs.Calls.{Handed, Call, take_up, oust, step, conclude, trail, document, give_up, give_up_apart, Does, Runs, are, Comparison}
+use Rattle.history.specs.Calls.{Handed, Call, step, Does, Runs, are, Comparison}
 use Rattle.history.specs.Law.{told_by, told, count_of}
 use Rattle.history.proofs.Effects.{permitted, steps_permitted, Effect, keeps, begins, steps, parts, ends, effect, started_so}
 use Rattle.history.proofs.Holders.{Held, Gone, holders, not_holders, held_steps, held_parts, begun_ends, end_ends, gone_on, started_held}
@@ -56,15 +56,8 @@ module _ (n : Numbers) where
     other_tallied none (ends m h made which freed) = inr (end_ends n a a' freed held)
 
   tallied : (d : Call) (a a' : Area) (e : ℕ) → Does d a a' → Held n (said a) → a.examined ≡ e → Tally (e + told_by n d) a'
-  tallied (take_up h r) a a' e does held so = other_tallied (take_up h r) a a' e held so refl (effect (take_up h r) a a' does)
-  tallied (oust h r) a a' e does held so = other_tallied (oust h r) a a' e held so refl (effect (oust h r) a a' does)
   tallied (step m h k slots (Ok answer)) a a' e does held so = step_tallied (step m h k slots (Ok answer)) a a' e held so m h k slots answer refl does
-  tallied (step m h k slots (Err r)) a a' e does held so = other_tallied (step m h k slots (Err r)) a a' e held so refl (effect (step m h k slots (Err r)) a a' does)
-  tallied (conclude c r) a a' e does held so = other_tallied (conclude c r) a a' e held so refl (effect (conclude c r) a a' does)
-  tallied (trail c o r o') a a' e does held so = other_tallied (trail c o r o') a a' e held so refl (effect (trail c o r o') a a' does)
-  tallied (document m h slots levels o r o') a a' e does held so = other_tallied (document m h slots levels o r o') a a' e held so refl (effect (document m h slots levels o r o') a a' does)
-  tallied (give_up c r) a a' e does held so = other_tallied (give_up c r) a a' e held so refl (effect (give_up c r) a a' does)
-  tallied (give_up_apart c r) a a' e does held so = other_tallied (give_up_apart c r) a a' e held so refl (effect (give_up_apart c r) a a' does)
+  tallied d a a' e does held so = other_tallied d a a' e held so refl (effect d a a' does)
 
   run_tallied : (cs : List Call) (a now : Area) (e : ℕ) → Runs cs a now → Tally e a → Tally (e + told n cs) now
   run_tallied [] a now e runs tally = let none : e ≡ e + 0 = omega arith in subst (λ (k : ℕ). Tally k now) none (subst (Tally e) (sym runs) tally)

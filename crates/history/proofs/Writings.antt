@@ -1,5 +1,5 @@
 -- What a comparison writes: once it is apart its list and its broken pair stay, so all is written along one way. Assumes nothing.
-use Rattle.std.proofs.Common.{◌≡◌, ℕ, zero, suc, ◌-◌, ◌<◌, true, false, ◌&&◌, ◌⊎◌, List, [], ◌∷◌, length, None, Ok, Err, is_ok, sym, refl, ap, ◌∙◌, subst, inl, inr, ⊎_elim}
+use Rattle.std.proofs.Common.{◌≡◌, ℕ, zero, suc, ◌-◌, ◌<◌, true, false, ◌&&◌, ◌⊎◌, List, [], ◌∷◌, length, None, Ok, is_ok, sym, refl, ap, ◌∙◌, subst, inl, inr, ⊎_elim}
 use Rattle.std.specs.List.{AllByRecursion, slice_get}
 use Rattle.std.proofs.lemmas.Bool.{and_parts, both_ways, not-false, or_cases, false≢true}
 use Rattle.std.proofs.lemmas.List.{length-map}
@@ -35,7 +35,7 @@ use Rattle.document.specs.Documents.{Way, symbols_of, DocumentOf}
 use Rattle.document.specs.Writing.{kept_from}
 use Rattle.document.proofs.Accepting.{built_tells}
 use Rattle.document.proofs.Ways.{every_way, one_way, way_trail}
-use Rattle.history.specs.Calls.{Handed, first_of, second_of, Same, Call, take_up, oust, step, conclude, trail, document, give_up, give_up_apart, Does, Runs, are, is_made_with, some, StepsOver, Comparison}
+use Rattle.history.specs.Calls.{Handed, first_of, second_of, Same, Call, trail, document, Does, Runs, are, is_made_with, some, StepsOver, Comparison}
 use Rattle.history.specs.Law.{StepsOverItsOwn, WritesTrail, WritesDocument, is_writing, own_call, WroteBy, Wrote}
 use Rattle.history.proofs.Counting.{is_apart}
 use Rattle.history.proofs.Effects.{Holder, holder, permitted, Effect, keeps, begins, steps, parts, ends, effect, started_so}
@@ -45,10 +45,8 @@ use Rattle.history.proofs.Verdicts.{Known, known_on, not_held_by, started_known}
 
 -- writing is for an area that is apart
 writing_apart : (w : Work) (p : Phase) → by_phase w (decided p Write) ≡ None → (k : Kind) × (p ≡ phase.Apart k)
-writing_apart w phase.Free h = absurd (some_not_none h)
-writing_apart w phase.Running h = absurd (some_not_none h)
-writing_apart w (phase.Ready v) h = absurd (some_not_none h)
 writing_apart w (phase.Apart k) h = (k, refl)
+writing_apart w p h = absurd (some_not_none h)
 
 -- who writes with an accepted trail or document: the holder of an area that is apart
 record Writer (d : Call) (w : Work) : Type 0 where
@@ -58,15 +56,10 @@ record Writer (d : Call) (w : Work) : Type 0 where
   apart : (k : Kind) × (w.phase ≡ phase.Apart k)
 
 writer : (d : Call) (a a' : Area) → Does d a a' → is_writing d ≡ true → Writer d (said a)
-writer (take_up h r) a a' does so = absurd (false≢true so)
-writer (oust h r) a a' does so = absurd (false≢true so)
-writer (step m h k slots r) a a' does so = absurd (false≢true so)
-writer (conclude c r) a a' does so = absurd (false≢true so)
 writer (trail c o (Ok r) o') a a' does so =
     let none = (first_none (claim_refusal (said a) c.numbers Write) _ does.0.2.0).0 in
     let may = permitted (said a) c.numbers Write none in
     record { numbers = c.numbers; holds = may.0; made = λ n. refl; apart = writing_apart (said a) a.phase may.1 }
-writer (trail c o (Err e) o') a a' does so = absurd (false≢true so)
 writer (document m h slots levels o (Ok size) o') a a' does so =
     ⊎_elim
     (λ refused. absurd (false≢true (sym (ap is_ok refused.2))))
@@ -78,9 +71,7 @@ writer (document m h slots levels o (Ok size) o') a a' does so =
     let asked = first_none (phase_refuses w Write) _ (first_none (other_counts w h.first h.second) _ held.1).1 in
     record { numbers = m; holds = holder w m near.0 (not-false _ (fails _ _ held.0)); made = λ n. refl; apart = writing_apart w a.phase asked.0 })
     does.0
-writer (document m h slots levels o (Err e) o') a a' does so = absurd (false≢true so)
-writer (give_up c r) a a' does so = absurd (false≢true so)
-writer (give_up_apart c r) a a' does so = absurd (false≢true so)
+writer d a a' does so = absurd (false≢true so)
 
 -- no turn is taken of an area that does not run
 pub turns_none : (A B : Automaton) (j : ℕ) (w w' : Work) → (w.phase ≡ phase.Running → ⊥) → Turns A B j w w' → w' ≡ w
@@ -129,16 +120,9 @@ module _ (g : Handed) (n : Numbers) (k : Kind) (es : List Listed) (i : ℕ) (way
 
   -- of other calls nothing is said
   writes : (d : Call) → ((c : Lease Apart) (o : List ℕ) (r : ℕ × Lease Apart) (o' : List ℕ) → d ≡ trail c o (Ok r) o' → are n c.numbers ≡ true → TrailSo r.0 o o') → ((m : Numbers) (h : Handed) (slots levels : ℕ) (o : List ℕ) (size : ℕ) (o' : List ℕ) → d ≡ document m h slots levels o (Ok size) o' → are n m ≡ true → Same g h → DocumentSo size o o') → Writes d
-  writes (take_up h r) trails documents = (tt, tt)
-  writes (oust h r) trails documents = (tt, tt)
-  writes (step m h j slots r) trails documents = (tt, tt)
-  writes (conclude c r) trails documents = (tt, tt)
   writes (trail c o (Ok r) o') trails documents = (trails c o r o' refl, tt)
-  writes (trail c o (Err e) o') trails documents = (tt, tt)
   writes (document m h slots levels o (Ok size) o') trails documents = (tt, documents m h slots levels o size o' refl)
-  writes (document m h slots levels o (Err e) o') trails documents = (tt, tt)
-  writes (give_up c r) trails documents = (tt, tt)
-  writes (give_up_apart c r) trails documents = (tt, tt)
+  writes d trails documents = (tt, tt)
 
   -- nor of one that does not write
   unwritten : (d : Call) → (is_made_with n d ≡ true → is_writing d ≡ true → ⊥) → Writes d
@@ -261,10 +245,8 @@ module _ (g : Handed) (n : Numbers) where
       by a.phase refl (written_by cs runs.0 now runs.2 over.1 (known_on g n d a runs.0 over.0 (effect d a runs.0 runs.1) (inl known)))
     where
       by : (p : Phase) → a.phase ≡ p → (some (λ x. is_made_with n x && is_writing x) cs ≡ true → WroteBy g n cs now) → WroteBy g n (d ∷ cs) now
-      by phase.Free is rest = wrote_before d cs a runs.0 now runs.1 (ap is_apart is) so rest
-      by phase.Running is rest = wrote_before d cs a runs.0 now runs.1 (ap is_apart is) so rest
-      by (phase.Ready v) is rest = wrote_before d cs a runs.0 now runs.1 (ap is_apart is) so rest
       by (phase.Apart k) is rest = wrote_from (d ∷ cs) a now k runs known.0 known.1 is
+      by p is rest = wrote_before d cs a runs.0 now runs.1 (ap is_apart is) so rest
 
 pub written : (a : Area) (c : Comparison a) → StepsOverItsOwn c → own_call c is_writing ≡ true → Wrote c
 written a c over so =

@@ -1,6 +1,6 @@
 -- The calls that handle an area, each with what was handed over and what came of it; lists of them; and the comparisons that they begin.
 -- Assumes nothing.
-use Rattle.std.specs.Prelude.{◌≡◌, ℕ, ◌+◌, ◌^◌, ◌<◌, Bool, true, false, cond, ◌&&◌, ◌||◌, List, [], ◌∷◌, Ok, Err, Result, ◌==◌}
+use Rattle.std.specs.Prelude.{◌≡◌, ℕ, ◌+◌, ◌^◌, ◌<◌, Bool, true, false, cond, ◌&&◌, ◌||◌, List, [], ◌∷◌, Ok, Result, ◌==◌}
 use Rattle.refusal.specs.declared.fault.Refusal.{Refusal}
 use Rattle.schema.specs.Automata.{Automaton}
 use Rattle.schema.specs.Tables.{Tables, automaton}
@@ -81,28 +81,14 @@ are n m = m.area == n.area && m.serial == n.serial
 -- the call is an accepted take or oust: it begins a comparison
 abbrev pub is_beginning : Call → Bool
 is_beginning (take_up h (Ok c)) = true
-is_beginning (take_up h (Err e)) = false
 is_beginning (oust h (Ok c)) = true
-is_beginning (oust h (Err e)) = false
-is_beginning (step m h steps slots r) = false
-is_beginning (conclude c r) = false
-is_beginning (trail c o r o') = false
-is_beginning (document m h slots levels o r o') = false
-is_beginning (give_up c r) = false
-is_beginning (give_up_apart c r) = false
+is_beginning d = false
 
 -- the call begins a comparison of these schemas, and its claim has these numbers
 abbrev pub Starts : Call → Handed → Numbers → Type 0
 Starts (take_up h (Ok c)) g n = (g ≡ h) × (n ≡ c.numbers)
-Starts (take_up h (Err e)) g n = ⊥
 Starts (oust h (Ok c)) g n = (g ≡ h) × (n ≡ c.numbers)
-Starts (oust h (Err e)) g n = ⊥
-Starts (step m h steps slots r) g n = ⊥
-Starts (conclude c r) g n = ⊥
-Starts (trail c o r o') g n = ⊥
-Starts (document m h slots levels o r o') g n = ⊥
-Starts (give_up c r) g n = ⊥
-Starts (give_up_apart c r) g n = ⊥
+Starts d g n = ⊥
 
 -- the call is made with the claim of these numbers, or told them
 abbrev pub is_made_with : Numbers → Call → Bool
@@ -117,54 +103,24 @@ is_made_with n (give_up_apart c r) = are n c.numbers
 
 -- the call is an accepted conclude
 abbrev pub is_conclusion : Call → Bool
-is_conclusion (take_up h r) = false
-is_conclusion (oust h r) = false
-is_conclusion (step m h steps slots r) = false
 is_conclusion (conclude c (Ok v)) = true
-is_conclusion (conclude c (Err e)) = false
-is_conclusion (trail c o r o') = false
-is_conclusion (document m h slots levels o r o') = false
-is_conclusion (give_up c r) = false
-is_conclusion (give_up_apart c r) = false
+is_conclusion d = false
 
 -- the call is an accepted conclude that answers included
 abbrev pub is_inclusion : Call → Bool
-is_inclusion (take_up h r) = false
-is_inclusion (oust h r) = false
-is_inclusion (step m h steps slots r) = false
 is_inclusion (conclude c (Ok (concluded.Included n))) = true
-is_inclusion (conclude c (Ok (concluded.Apart k n claim))) = false
-is_inclusion (conclude c (Err e)) = false
-is_inclusion (trail c o r o') = false
-is_inclusion (document m h slots levels o r o') = false
-is_inclusion (give_up c r) = false
-is_inclusion (give_up_apart c r) = false
+is_inclusion d = false
 
 -- the call is an accepted conclude that answers apart
 abbrev pub is_parting : Call → Bool
-is_parting (take_up h r) = false
-is_parting (oust h r) = false
-is_parting (step m h steps slots r) = false
-is_parting (conclude c (Ok (concluded.Included n))) = false
 is_parting (conclude c (Ok (concluded.Apart k n claim))) = true
-is_parting (conclude c (Err e)) = false
-is_parting (trail c o r o') = false
-is_parting (document m h slots levels o r o') = false
-is_parting (give_up c r) = false
-is_parting (give_up_apart c r) = false
+is_parting d = false
 
 -- the call is an accepted give up
 abbrev pub is_giving_up : Call → Bool
-is_giving_up (take_up h r) = false
-is_giving_up (oust h r) = false
-is_giving_up (step m h steps slots r) = false
-is_giving_up (conclude c r) = false
-is_giving_up (trail c o r o') = false
-is_giving_up (document m h slots levels o r o') = false
 is_giving_up (give_up c (Ok n)) = true
-is_giving_up (give_up c (Err e)) = false
 is_giving_up (give_up_apart c (Ok n)) = true
-is_giving_up (give_up_apart c (Err e)) = false
+is_giving_up d = false
 
 -- some call of the list passes the test
 abbrev pub some : (Call → Bool) → List Call → Bool
@@ -173,15 +129,8 @@ some test (c ∷ cs) = test c || some test cs
 
 -- how many steps the call grants: the number that it asks for, where it is an accepted step told these numbers
 abbrev pub granted_by : Numbers → Call → ℕ
-granted_by n (take_up h r) = 0
-granted_by n (oust h r) = 0
 granted_by n (step m h steps slots (Ok answer)) = cond (are n m) steps 0
-granted_by n (step m h steps slots (Err e)) = 0
-granted_by n (conclude c r) = 0
-granted_by n (trail c o r o') = 0
-granted_by n (document m h slots levels o r o') = 0
-granted_by n (give_up c r) = 0
-granted_by n (give_up_apart c r) = 0
+granted_by n d = 0
 
 -- the steps granted, added up
 abbrev pub granted : Numbers → List Call → ℕ
@@ -190,15 +139,8 @@ granted n (c ∷ cs) = granted_by n c + granted n cs
 
 -- an accepted step told these numbers was handed these schemas; nothing is said of other calls
 abbrev pub StepsOver : Numbers → Handed → Call → Type 0
-StepsOver n g (take_up h r) = Unit {0}
-StepsOver n g (oust h r) = Unit {0}
 StepsOver n g (step m h steps slots (Ok answer)) = are n m ≡ true → Same g h
-StepsOver n g (step m h steps slots (Err e)) = Unit {0}
-StepsOver n g (conclude c r) = Unit {0}
-StepsOver n g (trail c o r o') = Unit {0}
-StepsOver n g (document m h slots levels o r o') = Unit {0}
-StepsOver n g (give_up c r) = Unit {0}
-StepsOver n g (give_up_apart c r) = Unit {0}
+StepsOver n g d = Unit {0}
 
 -- a comparison on an area: the calls before it, the call that began it, with its schemas and its claim's numbers, and the calls since
 pub record Comparison (a : Area) : Type 0 where

@@ -56,53 +56,25 @@ StepsOverItsOwn c = AllByRecursion (StepsOver c.claim c.schemas) c.since
 
 -- an accepted trail call with these numbers wrote the symbols of the way, and answered how many; nothing is said of other calls
 abbrev pub WritesTrail : Numbers → List Listed → Call → Type 0
-WritesTrail n way (take_up h r) = Unit {0}
-WritesTrail n way (oust h r) = Unit {0}
-WritesTrail n way (step m h steps slots r) = Unit {0}
-WritesTrail n way (conclude c r) = Unit {0}
 WritesTrail n way (trail c o (Ok r) o') = are n c.numbers ≡ true → (r.0 ≡ length way) × (o' ≡ overwritten o 0 (symbols_of way))
-WritesTrail n way (trail c o (Err e) o') = Unit {0}
-WritesTrail n way (document m h slots levels o r o') = Unit {0}
-WritesTrail n way (give_up c r) = Unit {0}
-WritesTrail n way (give_up_apart c r) = Unit {0}
+WritesTrail n way d = Unit {0}
 
 -- an accepted document call told these numbers and handed these schemas wrote the bytes of the tree that is built along the way, which the
 -- first automaton accepts and the second does not, and answered how many; nothing is said of other calls
 abbrev pub WritesDocument : Numbers → Handed → Kind → List Listed → ℕ → List Listed → Call → Type 0
-WritesDocument n g k es i way (take_up h r) = Unit {0}
-WritesDocument n g k es i way (oust h r) = Unit {0}
-WritesDocument n g k es i way (step m h steps slots r) = Unit {0}
-WritesDocument n g k es i way (conclude c r) = Unit {0}
-WritesDocument n g k es i way (trail c o r o') = Unit {0}
 WritesDocument n g k es i way (document m h slots levels o (Ok size) o') = are n m ≡ true → Same g h → (t : Tree) × DocumentOf (first_of g) (second_of g) k es i way t × (accepts (first_of g) 0 t ≡ true) × (accepts (second_of g) 0 t ≡ false) × (size ≡ length (tree_bytes t)) × (o' ≡ overwritten o 0 (tree_bytes t))
-WritesDocument n g k es i way (document m h slots levels o (Err e) o') = Unit {0}
-WritesDocument n g k es i way (give_up c r) = Unit {0}
-WritesDocument n g k es i way (give_up_apart c r) = Unit {0}
+WritesDocument n g k es i way d = Unit {0}
 
 -- the call is an accepted trail or document
 abbrev pub is_writing : Call → Bool
-is_writing (take_up h r) = false
-is_writing (oust h r) = false
-is_writing (step m h steps slots r) = false
-is_writing (conclude c r) = false
 is_writing (trail c o (Ok r) o') = true
-is_writing (trail c o (Err e) o') = false
 is_writing (document m h slots levels o (Ok n) o') = true
-is_writing (document m h slots levels o (Err e) o') = false
-is_writing (give_up c r) = false
-is_writing (give_up_apart c r) = false
+is_writing d = false
 
 -- the call is an accepted oust
 abbrev pub is_ousting : Call → Bool
-is_ousting (take_up h r) = false
 is_ousting (oust h (Ok c)) = true
-is_ousting (oust h (Err e)) = false
-is_ousting (step m h steps slots r) = false
-is_ousting (conclude c r) = false
-is_ousting (trail c o r o') = false
-is_ousting (document m h slots levels o r o') = false
-is_ousting (give_up c r) = false
-is_ousting (give_up_apart c r) = false
+is_ousting d = false
 
 -- some call of the comparison with its own claim passes the test
 abbrev pub own_call : {a : Area} → Comparison a → (Call → Bool) → Bool
@@ -134,15 +106,8 @@ Wrote c = WroteBy c.schemas c.claim c.since c.now
 
 -- how many pairs the call tells that it examined: the first number that an accepted step answers which is told these numbers
 abbrev pub told_by : Numbers → Call → ℕ
-told_by n (take_up h r) = 0
-told_by n (oust h r) = 0
 told_by n (step m h steps slots (Ok answer)) = cond (are n m) answer.0 0
-told_by n (step m h steps slots (Err e)) = 0
-told_by n (conclude c r) = 0
-told_by n (trail c o r o') = 0
-told_by n (document m h slots levels o r o') = 0
-told_by n (give_up c r) = 0
-told_by n (give_up_apart c r) = 0
+told_by n d = 0
 
 -- the pairs told, added up
 abbrev pub told : Numbers → List Call → ℕ
