@@ -137,13 +137,13 @@ concludes_as_decided a claim (Apart k n parted) a' is = subst (λ (d : Decision)
 
 pub trails_as_decided : TrailsAsDecided
 unfolding TrailsAsDecided
-trails_as_decided a claim output r output' (v, trail, is) = written (said a) a.phase (claimed_by_phase (said a) claim.numbers Write (first_none (claim_refusal (said a) claim.numbers Write) _ is.0).0)
+trails_as_decided a claim output n output' (v, trail, is) = written (said a) a.phase (claimed_by_phase (said a) claim Write (first_none (claim_refusal (said a) claim Write) _ is.0).0)
 
-pub gives_up_as_decided : (S : Type 0) → GivesUpAsDecided S
+pub gives_up_as_decided : GivesUpAsDecided
 unfolding GivesUpAsDecided
-gives_up_as_decided S a claim n a' is = by a.phase is.1
+gives_up_as_decided a claim n a' is = by a.phase is.1
   where
-    by : (p : Phase) → cond (not (is_free p) && eqb claim.numbers.serial a.serial) ((n ≡ 1) × (said a' ≡ free a.number a.serial)) ((n ≡ 0) × (a' ≡ a)) → GivesUpBy (decided p GiveUp) a claim.numbers.serial n a'
+    by : (p : Phase) → cond (not (is_free p) && eqb claim.serial a.serial) ((n ≡ 1) × (said a' ≡ free a.number a.serial)) ((n ≡ 0) × (a' ≡ a)) → GivesUpBy (decided p GiveUp) a claim.serial n a'
     by phase.Free up = up
     by phase.Running up = up
     by (phase.Ready v) up = up
@@ -171,7 +171,7 @@ before_room o output w r is early = by o (ltb (length output) (length w)) is
 pub trail_not_early : TrailNotEarly
 unfolding TrailNotEarly
 trail_not_early a claim output e output' (v, trail, is) early k apart =
-    let found = by_phase_alone (said a) claim.numbers Write e.0 (before_room (claim_refusal (said a) claim.numbers Write) output v e.0 is.0 early) early in
+    let found = by_phase_alone (said a) claim Write e (before_room (claim_refusal (said a) claim Write) output v e is.0 early) early in
     none-some _ (sym (ap (λ (p : Phase). by_phase (said a) (decided p Write)) apart) ∙ found)
 
 pub conclusion_early : ConclusionEarly

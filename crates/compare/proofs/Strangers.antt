@@ -6,7 +6,6 @@ use Rattle.refusal.specs.declared.fault.Fault.TheVariants.{Foreign, Ousted}
 use Rattle.refusal.specs.declared.fault.Refusal.{Refusal}
 use Rattle.refusal.specs.Order.{first_of}
 use Rattle.schema.specs.Faults.{either_fault}
-use Rattle.compare.specs.declared.claim.Apart.{Apart}
 use Rattle.compare.specs.declared.claim.Comparing.{Comparing}
 use Rattle.compare.specs.declared.claim.Lease.{Lease}
 use Rattle.compare.specs.declared.claim.Numbers.{Numbers}
@@ -80,32 +79,32 @@ trail_of_stranger a claim output r output' (v, trail, is) other = by r is
     w : Work
     w = said a
 
-    so : trail_refusal w claim output v ≡ Some (stranger w claim.numbers)
-    so = ap (λ (o : Option Refusal). first_of (o ∷ no_room output v ∷ [])) (claim_refused w claim.numbers Write other)
+    so : trail_refusal w claim output v ≡ Some (stranger w claim)
+    so = ap (λ (o : Option Refusal). first_of (o ∷ no_room output v ∷ [])) (claim_refused w claim Write other)
 
-    by : (r : Result (ℕ × Lease Apart) (Refusal × Lease Apart)) → TrailAnswer w claim output v r output' → (r ≡ Err (stranger w claim.numbers, claim)) × (output' ≡ output)
-    by (Ok x) is = absurd (none-some _ (sym is.0 ∙ so))
-    by (Err e) is = (refused w claim.numbers claim _ e so is.0 is.1, is.2)
+    by : (r : Result ℕ Refusal) → TrailAnswer w claim output v r output' → (r ≡ Err (stranger w claim)) × (output' ≡ output)
+    by (Ok n) is = absurd (none-some _ (sym is.0 ∙ so))
+    by (Err e) is = (ap Err (same_Some _ _ (sym is.0 ∙ so)), is.1)
 
-pub giving_up_of_stranger : (S : Type 0) → GivingUpOfStranger S
+pub giving_up_of_stranger : GivingUpOfStranger
 unfolding GivingUpOfStranger
-giving_up_of_stranger S a claim r a' is other = by r is
+giving_up_of_stranger a claim r a' is other = by r is
   where
     w : Work
     w = said a
 
-    no : Result ℕ (Refusal × Lease S)
-    no = Err (stranger w claim.numbers, claim)
+    no : Result ℕ Refusal
+    no = Err (stranger w claim)
 
     given : (s h : Bool) (n : ℕ) (freed : Type 0) → (s && h) ≡ false → where_found (not s) w Foreign ≡ None → cond h freed ((n ≡ 0) × (a' ≡ a)) → (Ok n ≡ cond s (Ok 0) no) × (a' ≡ a)
     given true true n freed other near is = absurd (both_ways true other refl)
     given true false n freed other near is = (ap Ok is.0, is.1)
     given false h n freed other near is = absurd (none-some _ (sym near))
 
-    kept : (s : Bool) (e : Refusal × Lease S) → where_found (not s) w Foreign ≡ Some e.0 → e.1 ≡ claim → ◌≡◌ {A = Result ℕ (Refusal × Lease S)} (Err e) (cond s (Ok 0) (Err (record { fault = cond s Ousted Foreign; place = w.serial }, claim)))
-    kept true e far back = absurd (none-some _ far)
-    kept false e far back = let first = same_Some _ _ (sym far) in λ i. Err (first i, back i)
+    kept : (s : Bool) (e : Refusal) → where_found (not s) w Foreign ≡ Some e → ◌≡◌ {A = Result ℕ Refusal} (Err e) (cond s (Ok 0) (Err (record { fault = cond s Ousted Foreign; place = w.serial })))
+    kept true e far = absurd (none-some _ far)
+    kept false e far = ap Err (same_Some _ _ (sym far))
 
-    by : (r : Result ℕ (Refusal × Lease S)) → GivingUp a claim r a' → (r ≡ cond (eqb claim.numbers.area a.number) (Ok 0) no) × (a' ≡ a)
-    by (Ok n) is = given (eqb claim.numbers.area a.number) (held_by w claim.numbers.serial) n _ other is.0 is.1
-    by (Err e) is = (kept (eqb claim.numbers.area a.number) e is.0 is.1, is.2)
+    by : (r : Result ℕ Refusal) → GivingUp a claim r a' → (r ≡ cond (eqb claim.area a.number) (Ok 0) no) × (a' ≡ a)
+    by (Ok n) is = given (eqb claim.area a.number) (held_by w claim.serial) n _ other is.0 is.1
+    by (Err e) is = (kept (eqb claim.area a.number) e is.0, is.1)

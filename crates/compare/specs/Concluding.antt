@@ -34,7 +34,7 @@ Conclusion a claim (Err e) a' = (claim_refusal (said a) claim.numbers Conclude �
 abbrev pub GivesUp : Area → ℕ → ℕ → Area → Type 0
 GivesUp a serial n a' = cond (held_by (said a) serial) ((n ≡ 1) × (said a' ≡ free (said a).number (said a).serial)) ((n ≡ 0) × (a' ≡ a))
 
--- the one outcome: 1 or 0, or `foreign`, which hands back the claim and leaves the whole area as found
-abbrev pub GivingUp : {S : Type 0} → Area → Lease S → Result ℕ (Refusal × Lease S) → Area → Type 0
-GivingUp a claim (Ok n) a' = (of_another (said a) claim.numbers.area ≡ None) × GivesUp a claim.numbers.serial n a'
-GivingUp a claim (Err e) a' = (of_another (said a) claim.numbers.area ≡ Some e.0) × (e.1 ≡ claim) × (a' ≡ a)
+-- the one outcome of giving up a claim with these numbers: 1 or 0, or `foreign`, which leaves the whole area as found
+abbrev pub GivingUp : Area → Numbers → Result ℕ Refusal → Area → Type 0
+GivingUp a claim (Ok n) a' = (of_another (said a) claim.area ≡ None) × GivesUp a claim.serial n a'
+GivingUp a claim (Err e) a' = (of_another (said a) claim.area ≡ Some e) × (a' ≡ a)

@@ -5,7 +5,6 @@ use Rattle.refusal.specs.declared.fault.Refusal.{Refusal}
 use Rattle.schema.specs.Automata.{Automaton}
 use Rattle.schema.specs.Tables.{Tables, automaton}
 use Rattle.compare.specs.declared.area.Area.{Area}
-use Rattle.compare.specs.declared.claim.Apart as parted
 use Rattle.compare.specs.declared.claim.Comparing.{Comparing}
 use Rattle.compare.specs.declared.claim.Lease.{Lease}
 use Rattle.compare.specs.declared.claim.Numbers.{Numbers}
@@ -60,7 +59,9 @@ ConcludesAsDecided = (a : Area) (claim : Lease Comparing) (c : Concluded) (a' : 
 
 -- a trail is written where the table lets the area stay, and nowhere else
 unfoldable pub TrailsAsDecided : Type 0
-TrailsAsDecided = (a : Area) (claim : Lease parted.Apart) (output : List ℕ) (r : ℕ × Lease parted.Apart) (output' : List ℕ) → Trailing a claim output (Ok r) output' → decided a.phase Write ≡ Stay
+TrailsAsDecided =
+    (a : Area) (claim : Numbers) (output : List ℕ) (n : ℕ) (output' : List ℕ) →
+    Trailing a claim output (Ok n) output' → decided a.phase Write ≡ Stay
 
 -- what giving up a claim with that serial does by a decision: released, the area is free and 1 is answered, where the serial is the area's; and
 -- else it stays as it was, and 0 is answered
@@ -73,12 +74,16 @@ GivesUpBy Stay a serial n a' = (n ≡ 0) × (a' ≡ a)
 GivesUpBy (Refuse f) a serial n a' = ⊥
 
 -- an accepted giving up does what the table decides
-unfoldable pub GivesUpAsDecided : Type 0 → Type 0
-GivesUpAsDecided S = (a : Area) (claim : Lease S) (n : ℕ) (a' : Area) → GivingUp a claim (Ok n) a' → GivesUpBy (decided a.phase GiveUp) a claim.numbers.serial n a'
+unfoldable pub GivesUpAsDecided : Type 0
+GivesUpAsDecided =
+    (a : Area) (claim : Numbers) (n : ℕ) (a' : Area) →
+    GivingUp a claim (Ok n) a' → GivesUpBy (decided a.phase GiveUp) a claim.serial n a'
 
 -- no trail meets `early` in an area that is apart
 unfoldable pub TrailNotEarly : Type 0
-TrailNotEarly = (a : Area) (claim : Lease parted.Apart) (output : List ℕ) (e : Refusal × Lease parted.Apart) (output' : List ℕ) → Trailing a claim output (Err e) output' → e.0.fault ≡ Early → (k : Kind) → a.phase ≡ phase.Apart k → ⊥
+TrailNotEarly =
+    (a : Area) (claim : Numbers) (output : List ℕ) (e : Refusal) (output' : List ℕ) →
+    Trailing a claim output (Err e) output' → e.fault ≡ Early → (k : Kind) → a.phase ≡ phase.Apart k → ⊥
 
 -- a conclusion meets `early` in an area that runs or is apart, and in no other
 unfoldable pub ConclusionEarly : Type 0

@@ -1,5 +1,6 @@
 pub mod Beginning
 pub mod Breaking
+pub mod Claims
 pub mod Concluding
 pub mod Deciding
 pub mod Growing

@@ -4,7 +4,6 @@ use Rattle.refusal.specs.declared.fault.Refusal.{Refusal}
 use Rattle.schema.specs.Automata.{Automaton}
 use Rattle.schema.specs.Tables.{Tables, automaton}
 use Rattle.compare.specs.declared.area.Area.{Area}
-use Rattle.compare.specs.declared.claim.Apart.{Apart}
 use Rattle.compare.specs.declared.claim.Comparing.{Comparing}
 use Rattle.compare.specs.declared.claim.Lease.{Lease}
 use Rattle.compare.specs.declared.claim.Numbers.{Numbers}
@@ -57,9 +56,13 @@ unfoldable pub OneConclusion : Type 0
 OneConclusion = (a : Area) (claim : Lease Comparing) (r s : Result Concluded (Refusal × Lease Comparing)) (b c : Area) → Conclusion a claim r b → Conclusion a claim s c → SameAnswer SameConclusion r s × (b ≡ c)
 
 -- giving up has one answer, and leaves one area
-unfoldable pub OneGivingUp : Type 0 → Type 0
-OneGivingUp S = (a : Area) (claim : Lease S) (r s : Result ℕ (Refusal × Lease S)) (b c : Area) → GivingUp a claim r b → GivingUp a claim s c → (r ≡ s) × (b ≡ c)
+unfoldable pub OneGivingUp : Type 0
+OneGivingUp =
+    (a : Area) (claim : Numbers) (r s : Result ℕ Refusal) (b c : Area) →
+    GivingUp a claim r b → GivingUp a claim s c → (r ≡ s) × (b ≡ c)
 
 -- a trail has one answer, and leaves one output
 unfoldable pub OneTrailing : Type 0
-OneTrailing = (a : Area) (claim : Lease Apart) (output : List ℕ) (r s : Result (ℕ × Lease Apart) (Refusal × Lease Apart)) (one other : List ℕ) → Trailing a claim output r one → Trailing a claim output s other → (r ≡ s) × (one ≡ other)
+OneTrailing =
+    (a : Area) (claim : Numbers) (output : List ℕ) (r s : Result ℕ Refusal) (one other : List ℕ) →
+    Trailing a claim output r one → Trailing a claim output s other → (r ≡ s) × (one ≡ other)

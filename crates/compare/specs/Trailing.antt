@@ -6,8 +6,7 @@ use Rattle.refusal.specs.declared.fault.Fault.TheVariants.{Room}
 use Rattle.refusal.specs.declared.fault.Refusal.{Refusal}
 use Rattle.refusal.specs.Order.{first_of}
 use Rattle.compare.specs.declared.area.Area.{Area}
-use Rattle.compare.specs.declared.claim.Apart.{Apart}
-use Rattle.compare.specs.declared.claim.Lease.{Lease}
+use Rattle.compare.specs.declared.claim.Numbers.{Numbers}
 use Rattle.compare.specs.declared.event.Event.TheVariants.{Write}
 use Rattle.compare.specs.declared.pairs.Listed.{Listed}
 use Rattle.compare.specs.declared.pairs.Pairs.{Pairs}
@@ -54,15 +53,18 @@ abbrev pub no_room : List ℕ → List ℕ → Option Refusal
 no_room output w = cond (nat_lt (length output) (length w)) (Some (record { fault = Room; place = length w })) None
 
 -- the refusal of writing a trail: what is refused of the claim, or `room`
-abbrev pub trail_refusal : Work → Lease Apart → List ℕ → List ℕ → Option Refusal
-trail_refusal s claim output w = first_of (claim_refusal s claim.numbers Write ∷ no_room output w ∷ [])
+abbrev pub trail_refusal : Work → Numbers → List ℕ → List ℕ → Option Refusal
+trail_refusal s claim output w = first_of (claim_refusal s claim Write ∷ no_room output w ∷ [])
 
--- what is answered of a trail: its length, with the trail at the output's front and the rest as found, or the first refusal, which leaves the
--- output as found. Both hand back the claim
-abbrev pub TrailAnswer : Work → Lease Apart → List ℕ → List ℕ → Result (ℕ × Lease Apart) (Refusal × Lease Apart) → List ℕ → Type 0
-TrailAnswer s claim output w (Ok r) output' = (trail_refusal s claim output w ≡ None) × (r.0 ≡ length w) × (r.1 ≡ claim) × (output' ≡ overwritten output 0 w)
-TrailAnswer s claim output w (Err e) output' = (trail_refusal s claim output w ≡ Some e.0) × (e.1 ≡ claim) × (output' ≡ output)
+-- what is answered of a trail: its length, with the trail at the output's front and the rest as found, or the first
+-- refusal, which leaves the output as found
+abbrev pub TrailAnswer : Work → Numbers → List ℕ → List ℕ → Result ℕ Refusal → List ℕ → Type 0
+TrailAnswer s claim output w (Ok n) output' =
+    (trail_refusal s claim output w ≡ None) × (n ≡ length w) × (output' ≡ overwritten output 0 w)
+TrailAnswer s claim output w (Err e) output' =
+    (trail_refusal s claim output w ≡ Some e) × (output' ≡ output)
 
--- the one outcome: the answer of the trail of the broken pair
-abbrev pub Trailing : Area → Lease Apart → List ℕ → Result (ℕ × Lease Apart) (Refusal × Lease Apart) → List ℕ → Type 0
-Trailing a claim output r output' = (w : List ℕ) × Trail (said a).pairs (broken_index (said a)) w × TrailAnswer (said a) claim output w r output'
+-- the one outcome of a trail for the claim with these numbers: the answer of the trail of the broken pair
+abbrev pub Trailing : Area → Numbers → List ℕ → Result ℕ Refusal → List ℕ → Type 0
+Trailing a claim output r output' =
+    (w : List ℕ) × Trail (said a).pairs (broken_index (said a)) w × TrailAnswer (said a) claim output w r output'

@@ -1,4 +1,5 @@
 //! Concluding a comparison, and giving one up.
+ghost use Rattle.compare.specs.Claims.{less_refused, RefusedBack};
 ghost use Rattle.compare.specs.Concluding.{Conclusion, GivingUp};
 ghost use Rattle.compare.specs.Deciding.{ConcludesAsDecided, ConclusionEarly, GivesUpAsDecided};
 ghost use Rattle.compare.specs.Growing.{ConcludesGrown, IncludedCarries, ApartTells};
@@ -52,10 +53,11 @@ pub fn conclude(area: &mut Area, claim: Claim) -> Result<Concluded, (Refusal, Cl
 // A number, as docs/area.md has it: 1 where this freed the area, and 0 where it did not.
 #[tactic(auto, using(crate::proofs::Strangers::giving_up_of_stranger, crate::proofs::Outcomes::one_giving_up, crate::proofs::Deciding::gives_up_as_decided))]
 pub fn give_up<S>(area: &mut Area, claim: Lease<S>) -> Result<u32, (Refusal, Lease<S>)>
-    ensures outcome { GivingUp area.old claim result area.new }
-    ensures stranger { GivingUpOfStranger S }
-    ensures one { OneGivingUp S }
-    ensures table { GivesUpAsDecided S }
+    ensures outcome { GivingUp area.old claim.numbers (less_refused result) area.new }
+    ensures back { RefusedBack claim result }
+    ensures stranger { GivingUpOfStranger }
+    ensures one { OneGivingUp }
+    ensures table { GivesUpAsDecided }
 {
     let numbers = claim.numbers();
     if numbers.area != area.number {

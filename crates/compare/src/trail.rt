@@ -1,5 +1,6 @@
 //! The trail to the broken pair of a comparison that came out apart.
 ghost use Rattle.std.specs.Prelude.{◌≡◌, ℕ, ◌≤◌, List, length};
+ghost use Rattle.compare.specs.Claims.{less_claim, ComesBack};
 ghost use Rattle.compare.specs.Deciding.{TrailsAsDecided, TrailNotEarly};
 ghost use Rattle.compare.specs.Listing.{entries_of};
 ghost use Rattle.compare.specs.Outcomes.{OneTrailing};
@@ -8,7 +9,7 @@ ghost use Rattle.compare.specs.Trailing.{Trail, Trailing, TrailWritten, OneTrail
 ghost use Rattle.compare.specs.Work.{said};
 
 use crate::area::Area;
-use crate::claim::ApartClaim;
+use crate::claim::{ConcludedApart, Lease};
 use crate::event::Event;
 use crate::pairs::{Listed, Pairs};
 use refusal::fault::{Fault, Refusal};
@@ -62,12 +63,13 @@ pub(crate) fn broken_index(area: &Area) -> usize
 /// Writes the symbols that lead from the pair (0, 0) to the broken pair at the output's front, a byte each, and tells how many. Or `foreign`,
 /// `ousted`, `early` or `room`. The claim comes back either way.
 #[tactic(auto, using(crate::proofs::Trails::one_trail, crate::proofs::Trails::every_trail, crate::proofs::Strangers::trail_of_stranger, crate::proofs::Outcomes::one_trailing, crate::proofs::Deciding::trails_as_decided, crate::proofs::Deciding::trail_not_early))]
-pub fn trail(
+pub fn trail<S: ConcludedApart>(
     area: &Area,
-    claim: ApartClaim,
+    claim: Lease<S>,
     output: &mut [u8],
-) -> Result<(usize, ApartClaim), (Refusal, ApartClaim)>
-    ensures outcome { Trailing area.now claim output.old result output.new }
+) -> Result<(usize, Lease<S>), (Refusal, Lease<S>)>
+    ensures outcome { Trailing area.now claim.numbers output.old (less_claim result) output.new }
+    ensures back { ComesBack claim result }
     ensures one { OneTrail }
     ensures every { EveryTrail }
     ensures stranger { TrailOfStranger }
