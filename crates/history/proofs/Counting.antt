@@ -1,16 +1,14 @@
--- How many pairs a comparison has examined: as many as the steps granted, while it runs. Assumes nothing.
-use Rattle.std.proofs.Common.{◌≡◌, ℕ, zero, suc, ◌+◌, ◌*◌, ◌<◌, ◌≤◌, Bool, true, false, cond, eqb, ◌&&◌, ◌⊎◌, List, [], ◌∷◌, length, Some, None, Ok, Option, sym, refl, ap, ◌∙◌, subst, ap₂, inl, inr, ⊎_elim, arith}
-use Rattle.std.proofs.lemmas.Bool.{and_from, both_ways, cond-true, cond-false, not_from_true, not_from_false, eq-eqb, eqb-false, or_left, or_parts, or_right, false≢true}
+-- How many pairs a comparison has examined: as many as the steps granted, while it runs. Assumes
+-- nothing.
+use Rattle.std.proofs.Common.{◌≡◌, ℕ, zero, suc, ◌+◌, ◌*◌, ◌<◌, ◌≤◌, Bool, true, false, cond, eqb, ◌&&◌, ◌⊎◌, List, [], ◌∷◌, length, None, Ok, sym, refl, ap, ◌∙◌, subst, ap₂, inl, inr, ⊎_elim, arith}
+use Rattle.std.specs.List.{list_any}
+use Rattle.std.proofs.lemmas.Bool.{and_from, both_ways, cond-true, eqb-false, or_left, or_parts, or_right, false≢true}
 use Rattle.std.proofs.lemmas.Option.{slice_get_within}
-use Rattle.refusal.specs.declared.fault.Fault.{Fault}
-use Rattle.refusal.specs.declared.fault.Fault.TheVariants.{Foreign, Ousted}
-use Rattle.refusal.specs.declared.fault.Refusal.{Refusal}
-use Rattle.refusal.specs.Order.{first_of}
 use Rattle.schema.specs.Automata.{Automaton}
-use Rattle.schema.specs.Tables.{Tables, automaton}
+use Rattle.schema.specs.Tables.{Tables}
 use Rattle.compare.specs.declared.area.Area.{Area}
 use Rattle.compare.specs.declared.claim.Numbers.{Numbers}
-use Rattle.compare.specs.declared.event.Event.TheVariants.{Step, Conclude}
+use Rattle.compare.specs.declared.event.Event.TheVariants.{Conclude}
 use Rattle.compare.specs.declared.pairs.Listed.{Listed}
 use Rattle.compare.specs.declared.phase.Kind.{Kind}
 use Rattle.compare.specs.declared.phase.Phase.{Phase}
@@ -18,37 +16,29 @@ use Rattle.compare.specs.declared.phase.Phase.TheVariants as phase
 use Rattle.compare.specs.declared.phase.Verdict.{Verdict}
 use Rattle.compare.specs.declared.phase.Verdict.TheVariants as verdict
 use Rattle.compare.specs.Concluding.{claim_refusal}
-use Rattle.compare.specs.Phases.{decided}
-use Rattle.compare.specs.Refusals.{where_found, of_another, not_held, by_phase, phase_refuses}
 use Rattle.compare.specs.Stepping.{Turn, Turns, Stepped, going_on, with_nexts, is_running}
 use Rattle.compare.specs.Work.{Work, said, is_free, begun}
 use Rattle.compare.proofs.Nexts.{with_nexts_longer}
 use Rattle.compare.proofs.Turning.{counts_stay}
 use Rattle.compare.proofs.Views.{few_pairs}
-use Rattle.history.specs.Calls.{Call, conclude, Runs, are, is_made_with, is_conclusion, is_inclusion, is_giving_up, some, granted_by, granted, Comparison}
-use Rattle.history.specs.Law.{is_ousting, own_call}
-use Rattle.history.proofs.Effects.{permitted, steps_permitted, Effect, keeps, begins, steps, parts, ends, effect, started_so}
-use Rattle.history.proofs.Holders.{Held, holders, held_steps, started_held}
+use Rattle.history.specs.Calls.{Call, conclude, first_automaton, second_automaton, Runs, are, is_made_with, some_own, is_ousting, is_conclusion, is_inclusion, is_giving_up, granted_by, granted}
+use Rattle.history.specs.Comparisons.{Comparison, NeitherOustedNorGivenUp, GrantedAllPairs, HasVerdict}
+use Rattle.history.proofs.Effects.{Effect, keeps, begins, steps, parts, ends, effect, part_holder, started_so}
+use Rattle.history.proofs.Holders.{holders, held_step, own_step, started_held}
+use Rattle.history.proofs.Permits.{Held, conclusion_permitted}
 
 -- the area was concluded apart
 abbrev pub is_apart : Phase → Bool
 is_apart (phase.Apart k) = true
 is_apart p = false
 
--- a test that finds nothing
-pub not_found : (b : Bool) (w : Work) (f : Fault) → b ≡ false → where_found b w f ≡ None
-not_found b w f is = cond-false b (Some (record { fault = f; place = w.serial })) None is
-
-none_of : (o p q : Option Refusal) → o ≡ None → p ≡ None → q ≡ None → first_of (o ∷ p ∷ q ∷ []) ≡ None
-none_of o p q first second third = ap (λ r. first_of (r ∷ p ∷ q ∷ [])) first ∙ ap (λ r. first_of (r ∷ q ∷ [])) second ∙ ap (λ r. first_of (r ∷ [])) third
-
--- so many steps have been granted: it has not turned apart, the two counts are noted, and while it runs as many pairs are examined, and one
--- more is listed
-pub record Counted (n m g : ℕ) (w : Work) : Type 0 where
-  pub together : (k : Kind) → w.phase ≡ phase.Apart k → ⊥
-  pub firsts : w.firsts ≡ n
-  pub seconds : w.seconds ≡ m
-  pub runs : w.phase ≡ phase.Running → (w.examined ≡ g) × (w.examined < length w.pairs)
+-- so many steps have been granted: it has not turned apart, the two counts are noted, and while it runs
+-- as many pairs are examined, and one more is listed
+record Counted (n m g : ℕ) (w : Work) : Type 0 where
+  together : (k : Kind) → w.phase ≡ phase.Apart k → ⊥
+  firsts : w.firsts ≡ n
+  seconds : w.seconds ≡ m
+  runs : w.phase ≡ phase.Running → (w.examined ≡ g) × (w.examined < length w.pairs)
 
 module _ (n m : ℕ) where
   -- a verdict stands
@@ -104,8 +94,8 @@ module _ (n m : ℕ) where
         let last : (g + k) + 1 ≡ g + suc k = omega arith in
         subst (λ (i : ℕ). Counted n m i w') last (turn_counted (g + k) turns.0 w' turns.2 turns.3 (turns_counted k g w turns.0 turns.1 c))
 
-    -- a step examines as many pairs as it grants, where the area still runs
-    pub stepped_counted : (k g : ℕ) (w w' : Work) → Stepped A B k w w' → Counted n m g w → Counted n m (g + k) w'
+    -- a step examines as many as it was asked for, where the area still runs
+    stepped_counted : (k g : ℕ) (w w' : Work) → Stepped A B k w w' → Counted n m g w → Counted n m (g + k) w'
     stepped_counted k g w w' s c =
         let after = turns_counted s.taken g w w' s.turns c in
         record {
@@ -120,88 +110,70 @@ inclusion_concludes : (d : Call) → is_inclusion d ≡ true → is_conclusion d
 inclusion_concludes (conclude c (Ok v)) is = refl
 inclusion_concludes d is = absurd (false≢true is)
 
-module _ (n : Numbers) where
-  -- the claim of a comparison that holds the area is neither foreign nor ousted
-  pub claimed : (w : Work) → Held n w → (of_another w n.area ≡ None) × (not_held w n.serial ≡ None)
-  claimed w held = (
-    not_found _ w Foreign (not_from_true _ (eq-eqb n.area w.number (sym held.number))),
-    not_found _ w Ousted (not_from_true _ (and_from _ _ (not_from_false _ held.busy) (eq-eqb n.serial w.serial (sym held.serial)))),
-  )
-
-  -- conclude is refused nothing where a verdict stands
-  concludes : (w : Work) (v : Verdict) → Held n w → w.phase ≡ phase.Ready v → claim_refusal w n Conclude ≡ None
-  concludes w v held is =
-      let its = claimed w held in
-      none_of (of_another w n.area) (not_held w n.serial) (phase_refuses w Conclude) its.0 its.1
-      (ap (λ (p : Phase). by_phase w (decided p Conclude)) is ∙ by v)
-    where
-      by : (v : Verdict) → by_phase w (decided (phase.Ready v) Conclude) ≡ None
-      by verdict.Included = refl
-      by (verdict.Apart k) = refl
-
+module _ (n : Numbers) (i j : ℕ) where
   -- where the steps granted reach the product of the counts, a verdict stands
-  enough : (i j g : ℕ) (a : Area) → Held n (said a) → Counted i j g (said a) → i * j ≤ g → claim_refusal (said a) n Conclude ≡ None
-  enough i j g a held c reached = by a.phase refl
+  enough : (g : ℕ) (a : Area) → Held n (said a) → Counted i j g (said a) → i * j ≤ g → claim_refusal (said a) n Conclude ≡ None
+  enough g a held c reached = by a.phase refl
     where
       by : (p : Phase) → a.phase ≡ p → claim_refusal (said a) n Conclude ≡ None
       by phase.Free is = absurd (both_ways (is_free a.phase) held.busy (ap is_free is))
       by phase.Running is =
           let runs = c.runs is in
           absurd (omega (arith, runs.0, runs.1, few_pairs a.pairs, reached, ap₂ (λ (x : ℕ) (y : ℕ). x * y) c.firsts c.seconds))
-      by (phase.Ready v) is = concludes (said a) v held is
+      by (phase.Ready v) is = conclusion_permitted (said a) n v held is
       by (phase.Apart k) is = absurd (c.together k is)
+
+  -- the area is held, after so many steps granted; and it is neither ousted nor given up by the calls,
+  -- which grant enough
+  record Course (cs : List Call) (g : ℕ) (a : Area) : Type 0 where
+    held : Held n (said a)
+    counted : Counted i j g (said a)
+    unousted : list_any is_ousting cs ≡ false
+    kept : some_own n is_giving_up cs ≡ false
+    reached : i * j ≤ g + granted n cs
 
   -- its conclude is among the calls, or would be accepted
   abbrev Timely : List Call → Area → Type 0
-  Timely cs now = (some (λ d. is_made_with n d && is_conclusion d) cs ≡ true) ⊎ (claim_refusal (said now) n Conclude ≡ None)
+  Timely cs now = (some_own n is_conclusion cs ≡ true) ⊎ (claim_refusal (said now) n Conclude ≡ None)
 
-  module _ (i j : ℕ) (d : Call) (cs : List Call) (g : ℕ) (a m now : Area) (held : Held n (said a)) (c : Counted i j g (said a)) (safe : some is_ousting (d ∷ cs) ≡ false) (kept : some (λ x. is_made_with n x && is_giving_up x) (d ∷ cs) ≡ false) (reached : i * j ≤ g + granted n (d ∷ cs)) where
-    -- what the calls after the first give
-    abbrev Then : Type 0
-    Then = (g' : ℕ) → Held n (said m) → Counted i j g' (said m) → some is_ousting cs ≡ false → some (λ x. is_made_with n x && is_giving_up x) cs ≡ false → i * j ≤ g' + granted n cs → Timely cs now
+  -- what one call more, before the others, comes to
+  module _ (d : Call) (cs : List Call) (g : ℕ) (a m now : Area) (c : Course (d ∷ cs) g a) (then : (g' : ℕ) → Course cs g' m → Timely cs now) where
+    later : (g' : ℕ) → g' ≡ g + granted_by n d → Held n (said m) → Counted i j g' (said m) → Timely (d ∷ cs) now
+    later g' more held counted =
+        let course : Course cs g' m = record { held = held; counted = counted; unousted = (or_parts (is_ousting d) _ c.unousted).1; kept = (or_parts (is_made_with n d && is_giving_up d) (some_own n is_giving_up cs) c.kept).1; reached = omega (arith, more, c.reached) } in
+        ⊎_elim (λ so. inl (or_right _ _ so)) inr (then g' course)
 
-    later : Then → (g' : ℕ) → g' ≡ g + granted_by n d → Held n (said m) → Counted i j g' (said m) → Timely (d ∷ cs) now
-    later then g' more held' c' =
-        ⊎_elim
-        (λ so. inl (or_right _ _ so))
-        inr
-        (then g' held' c' (or_parts (is_ousting d) _ safe).1 (or_parts _ (some (λ x. is_made_with n x && is_giving_up x) cs) kept).1 (omega (arith, more, reached)))
+    concluded_now : is_made_with n d ≡ true → is_conclusion d ≡ true → Timely (d ∷ cs) now
+    concluded_now its is = inl (or_left _ _ (and_from _ _ its is))
 
-    now_concluded : is_made_with n d ≡ true → is_conclusion d ≡ true → Timely (d ∷ cs) now
-    now_concluded its is = inl (or_left _ _ (and_from _ _ its is))
+    one_call : Effect d a m → Timely (d ∷ cs) now
+    one_call (keeps k) = later g (omega (arith, k.grants n)) (subst (λ (x : Area). Held n (said x)) (sym k.same) c.held) (subst (λ (x : Area). Counted i j g (said x)) (sym k.same) c.counted)
+    one_call (begins b) = absurd (⊎_elim (both_ways (is_ousting d) (or_parts (is_ousting d) _ c.unousted).0) (both_ways (is_free a.phase) c.held.busy) b.how)
+    one_call (steps s) =
+        let given : granted_by n d ≡ s.asked = subst (λ (x : Call). granted_by n x ≡ s.asked) (sym s.is) (cond-true (are n s.numbers) s.asked 0 (own_step n s c.held)) in
+        later (g + s.asked) (omega (arith, given)) (held_step n s c.held) (stepped_counted i j (first_automaton s.handed) (second_automaton s.handed) s.asked g (said a) (said m) s.does.1.stepped c.counted)
+    one_call (parts p) =
+        concluded_now
+        (ap (is_made_with n) p.is ∙ holders n (said a) p.claim.numbers c.held (part_holder p))
+        (ap is_conclusion p.is)
+    one_call (ends e) =
+        let its : is_made_with n d ≡ true = e.made n ∙ holders n (said a) e.numbers c.held e.holder in
+        let ungiven = (or_parts (is_made_with n d && is_giving_up d) (some_own n is_giving_up cs) c.kept).0 in
+        ⊎_elim (λ included. concluded_now its (inclusion_concludes d included)) (λ gives. absurd (both_ways _ ungiven (and_from _ _ its gives))) e.which
 
-    first_of_all : Then → Effect d a m → Timely (d ∷ cs) now
-    first_of_all then (keeps left none) = later then g (omega (arith, none n)) (subst (λ (x : Area). Held n (said x)) (sym left) held) (subst (λ (x : Area). Counted i j g (said x)) (sym left) c)
-    first_of_all then (begins h claim e begun made how) = absurd (⊎_elim (both_ways (is_ousting d) (or_parts (is_ousting d) _ safe).0) (both_ways (is_free a.phase) held.busy) how)
-    first_of_all then (steps m' h k slots answer is stepping) =
-        let its : are n m' ≡ true = holders n (said a) m' held (permitted (said a) m' Step (steps_permitted (said a) m' h.first h.second k slots stepping.0)).0 in
-        let given : granted_by n d ≡ k = ap (granted_by n) is ∙ cond-true (are n m') k 0 its in
-        later then (g + k) (omega (arith, given)) (held_steps n a m m' h k slots answer stepping held) (stepped_counted i j (automaton h.first h.first_sets) (automaton h.second h.second_sets) k g (said a) (said m) stepping.1.stepped c)
-    first_of_all then (parts c' k count claim is concluding) =
-        now_concluded
-        (ap (is_made_with n) is ∙ holders n (said a) c'.numbers held (permitted (said a) c'.numbers Conclude concluding.0).0)
-        (ap is_conclusion is)
-    first_of_all then (ends m' h made which free) =
-        let its : is_made_with n d ≡ true = made n ∙ holders n (said a) m' held h in
-        ⊎_elim (λ included. now_concluded its (inclusion_concludes d included)) (λ gives. absurd (both_ways _ (or_parts _ (some (λ x. is_made_with n x && is_giving_up x) cs) kept).0 (and_from _ _ its gives))) which
-
-  -- the calls since, after so many steps granted
-  in_time_on : (i j : ℕ) (cs : List Call) (g : ℕ) (a now : Area) → Held n (said a) → Counted i j g (said a) → Runs cs a now → some is_ousting cs ≡ false → some (λ x. is_made_with n x && is_giving_up x) cs ≡ false → i * j ≤ g + granted n cs → Timely cs now
-  in_time_on i j [] g a now held c runs safe kept reached = inr (subst (λ (x : Area). claim_refusal (said x) n Conclude ≡ None) (sym runs) (enough i j g a held c (omega arith)))
-  in_time_on i j (d ∷ cs) g a now held c runs safe kept reached =
-      first_of_all i j d cs g a runs.0 now held c safe kept reached
-      (λ g' held' c' safe' kept' reached'. in_time_on i j cs g' runs.0 now held' c' runs.2 safe' kept' reached')
-      (effect d a runs.0 runs.1)
+  timely : (cs : List Call) (g : ℕ) (a now : Area) → Runs cs a now → Course cs g a → Timely cs now
+  timely [] g a now runs c = inr (subst (λ (x : Area). claim_refusal (said x) n Conclude ≡ None) (sym runs) (enough g a c.held c.counted (omega (arith, c.reached))))
+  timely (d ∷ cs) g a now runs c = one_call d cs g a runs.0 now c (λ g' c'. timely cs g' runs.0 now runs.2 c') (effect d a runs.0 runs.1)
 
 -- a comparison that has begun
 begun_counted : (w w' : Work) (T U : Tables) (live : Bool) → w' ≡ begun w T U live → Counted T.states U.states 0 w'
 begun_counted w w' T U true is = record { together = λ k apart. false≢true (ap is_apart (sym (ap (λ (x : Work). x.phase) is) ∙ apart)); firsts = ap (λ (x : Work). x.firsts) is; seconds = ap (λ (x : Work). x.seconds) is; runs = λ _. (ap (λ (x : Work). x.examined) is, omega (arith, ap (λ (x : Work). x.examined) is, ap (λ (x : Work). length x.pairs) is)) }
 begun_counted w w' T U false is = ready T.states U.states 0 w' verdict.Included (ap (λ (x : Work). x.phase) is) (ap (λ (x : Work). x.firsts) is) (ap (λ (x : Work). x.seconds) is)
 
-pub in_time : (a : Area) (c : Comparison a) → some is_ousting c.since ≡ false → own_call c is_giving_up ≡ false → c.schemas.first.states * c.schemas.second.states ≤ granted c.claim c.since → (own_call c is_conclusion ≡ true) ⊎ (claim_refusal (said c.now) c.claim Conclude ≡ None)
-in_time a c safe kept reached =
-    let s = started_so c in
-    in_time_on c.claim c.schemas.first.states c.schemas.second.states c.since 0 c.begun c.now
-    (started_held c.schemas c.claim c.at c.begun s)
-    (begun_counted (said c.at) (said c.begun) c.schemas.first c.schemas.second s.beginning.1.live s.beginning.1.after)
-    c.goes_on safe kept (omega (arith, reached))
+pub in_time : (a : Area) (c : Comparison a) → NeitherOustedNorGivenUp c → GrantedAllPairs c → HasVerdict c
+in_time a c on reached =
+    let s = (started_so c).does.1 in
+    let T = c.schemas.first in
+    let U = c.schemas.second in
+    timely c.claim T.states U.states c.since 0 c.begun c.now c.goes_on
+    (record { held = started_held c; counted = begun_counted (said c.at) (said c.begun) T U s.live s.after; unousted = on.unousted; kept = on.kept; reached = omega (arith, reached) })

@@ -1,125 +1,112 @@
--- While a comparison of its own schemas is apart, it has a document: a call that writes it lacks room at most. Assumes nothing.
-use Rattle.std.proofs.Common.{◌≡◌, ℕ, zero, suc, ◌^◌, ◌≤◌, true, ◌&&◌, eqb, ltb, ◌⊎◌, List, [], ◌∷◌, Some, None, Option, Ok, Err, sym, refl, ap, ap₂, ◌∙◌, subst, inl, inr, ⊎_elim}
+-- While a comparison of its own schemas is apart, it has a document: a call that writes it lacks room
+-- at most. Assumes nothing.
+use Rattle.std.proofs.Common.{◌≡◌, ℕ, zero, suc, ◌^◌, true, ◌&&◌, ltb, List, [], ◌∷◌, Some, None, Ok, sym, refl, ap, ap₂, ◌∙◌, subst, inl, inr, ⊎_elim}
 use Rattle.std.specs.List.{slice_get}
-use Rattle.std.proofs.lemmas.Bool.{and_from, and_parts, cond-false, eq-eqb, false≢true, le-ltb, ltb-true, not_from_true, or_cases}
+use Rattle.std.proofs.lemmas.Bool.{and_parts, false≢true, ltb-true, or_cases}
 use Rattle.std.proofs.lemmas.Option.{none-some}
-use Rattle.refusal.specs.declared.fault.Fault.TheVariants.{Room, Schemas, Symbols}
+use Rattle.refusal.specs.declared.fault.Fault.TheVariants.{Room}
 use Rattle.refusal.specs.declared.fault.Refusal.{Refusal}
-use Rattle.refusal.specs.Order.{first_of}
 use Rattle.schema.specs.Automata.{Automaton}
-use Rattle.schema.specs.Faults.{either_fault}
-use Rattle.schema.specs.Tables.{Tables, automaton}
-use Rattle.schema.proofs.Sound.{first_none, some_not_none}
+use Rattle.schema.specs.Tables.{Tables}
+use Rattle.schema.proofs.Sound.{some_not_none}
 use Rattle.compare.specs.declared.area.Area.{Area}
 use Rattle.compare.specs.declared.claim.Numbers.{Numbers}
 use Rattle.compare.specs.declared.conclude.Concluded.TheVariants as concluded
-use Rattle.compare.specs.declared.event.Event.TheVariants.{Write}
 use Rattle.compare.specs.declared.pairs.Listed.{Listed}
 use Rattle.compare.specs.declared.phase.Kind.{Kind}
 use Rattle.compare.specs.declared.phase.Phase.{Phase}
 use Rattle.compare.specs.declared.phase.Phase.TheVariants as phase
-use Rattle.compare.specs.Beginning.{kept_from}
-use Rattle.compare.specs.Growing.{LastBroken, Stands, Grown}
-use Rattle.compare.specs.Phases.{decided}
-use Rattle.compare.specs.Refusals.{by_phase, other_counts, other_symbols}
+use Rattle.compare.specs.Growing.{LastBroken, Stands}
 use Rattle.compare.specs.Stepping.{Turns}
-use Rattle.compare.specs.Strangers.{is_holder}
 use Rattle.compare.specs.Trailing.{broken_index}
-use Rattle.compare.specs.Work.{Work, said, held_by, in_phase}
-use Rattle.compare.proofs.Allowing.{fails}
+use Rattle.compare.specs.Work.{Work, said}
 use Rattle.compare.proofs.Grown.{last_index}
 use Rattle.compare.proofs.Turning.{counts_stay}
 use Rattle.document.specs.Documents.{HasDocument}
 use Rattle.document.specs.Writing.{NoDocument, early_refusal}
 use Rattle.document.proofs.Existing.{has_document}
-use Rattle.history.specs.Calls.{Handed, first_of as left_of, second_of as right_of, Same, Call, conclude, document, Does, Runs, is_made_with, is_parting, some, Comparison}
-use Rattle.history.specs.Law.{StepsOverItsOwn, own_call}
-use Rattle.history.proofs.Counting.{claimed, is_apart, not_found}
-use Rattle.history.proofs.Effects.{Effect, keeps, begins, steps, parts, ends, effect, Started, started_so}
-use Rattle.history.proofs.Holders.{Held, Gone, begun_ends, end_ends, gone_on, held_on, held_parts, held_steps, started_held}
-use Rattle.history.proofs.Transport.{same_first, same_second}
-use Rattle.history.proofs.Verdicts.{not_held_by, run_known, started_known}
+use Rattle.history.specs.Calls.{Handed, first_automaton, second_automaton, Call, conclude, Does, Runs, are, is_made_with, some_own, is_parting}
+use Rattle.history.specs.Comparisons.{Comparison, StepsOverItsOwn, ApartAndHolder, DocumentRefused}
+use Rattle.history.proofs.Counting.{is_apart}
+use Rattle.history.proofs.Effects.{Effect, Keeps, Steps, Parts, effect, step_turns, part_left, started_so}
+use Rattle.history.proofs.Holders.{Standing, stands_now, stands_on, stands_along, held_on, started_held}
+use Rattle.history.proofs.Permits.{Held, Noted, holder_held, begin_permitted, same_symbols, nothing_early}
+use Rattle.history.proofs.Verdicts.{GrownFor, grown_same, now_grown}
 use Rattle.history.proofs.Writings.{turns_none}
 
--- the noted counts are those of the schemas
-record Noted (g : Handed) (w : Work) : Type 0 where
-  symbols : w.symbols ≡ g.first.symbols
-  firsts : w.firsts ≡ g.first.states
-  seconds : w.seconds ≡ g.second.states
-
-module _ (g : Handed) where
-  turns_noted : (A B : Automaton) (k : ℕ) (w w' : Work) → Turns A B k w w' → Noted g w → Noted g w'
-  turns_noted A B zero w w' turns noted = subst (Noted g) (sym turns) noted
+-- the noted counts stay those of the schemas
+module _ (n : Numbers) (T U : Tables) where
+  turns_noted : (A B : Automaton) (k : ℕ) (w w' : Work) → Turns A B k w w' → Noted T U w → Noted T U w'
+  turns_noted A B zero w w' turns noted = subst (Noted T U) (sym turns) noted
   turns_noted A B (suc k) w w' turns noted =
       let before = turns_noted A B k w turns.0 turns.1 noted in
       let stay = counts_stay A B turns.0 w' turns.3 in
       record { symbols = stay.0 ∙ before.symbols; firsts = stay.1 ∙ before.firsts; seconds = stay.2 ∙ before.seconds }
 
-  module _ (n : Numbers) where
-    -- the comparison holds the area, which has its counts noted; or it has ended
-    abbrev Holding : Area → Type 0
-    Holding a = (Held n (said a) × Noted g (said a)) ⊎ Gone n (said a)
+  noted_on : (d : Call) (a a' : Area) → Effect d a a' → Standing n (λ x. Noted T U (said x)) a → Standing n (λ x. Noted T U (said x)) a'
+  noted_on d a a' e = stands_on n (λ x. Noted T U (said x)) (λ x. Noted T U (said x)) kept stepped parted e
+    where
+      kept : Keeps d a a' → Noted T U (said a) → Noted T U (said a')
+      kept e noted = subst (λ (x : Area). Noted T U (said x)) (sym e.same) noted
 
-    noted_on : (d : Call) (a a' : Area) → Effect d a a' → Held n (said a) → Noted g (said a) → Noted g (said a') ⊎ Gone n (said a')
-    noted_on d a a' (keeps left none) held noted = inl (subst (λ (x : Area). Noted g (said x)) (sym left) noted)
-    noted_on d a a' (begins h claim e begun made how) held noted = inr (begun_ends n a a' e h claim begun held)
-    noted_on d a a' (steps m h k slots answer is stepping) held noted =
-        inl (turns_noted (automaton h.first h.first_sets) (automaton h.second h.second_sets) stepping.1.stepped.taken (said a) (said a') stepping.1.stepped.turns noted)
-    noted_on d a a' (parts c k count claim is concluding) held noted =
-        let left = concluding.1.4 in
-        inl (record { symbols = ap (λ (x : Work). x.symbols) left ∙ noted.symbols; firsts = ap (λ (x : Work). x.firsts) left ∙ noted.firsts; seconds = ap (λ (x : Work). x.seconds) left ∙ noted.seconds })
-    noted_on d a a' (ends m h made which freed) held noted = inr (end_ends n a a' freed held)
+      stepped : (s : Steps d a a') → are n s.numbers ≡ true → Noted T U (said a) → Noted T U (said a')
+      stepped s its noted = turns_noted (first_automaton s.handed) (second_automaton s.handed) s.does.1.stepped.taken (said a) (said a') (step_turns s) noted
 
-    holding_on : (d : Call) (a a' : Area) → Effect d a a' → Holding a → Holding a'
-    holding_on d a a' e (inl s) = ⊎_elim (λ noted. ⊎_elim (λ held. inl (held, noted)) inr (held_on n a a' d e s.0)) inr (noted_on d a a' e s.0 s.1)
-    holding_on d a a' e (inr gone) = inr (gone_on n a a' d e gone)
+      parted : Parts d a a' → Noted T U (said a) → Noted T U (said a')
+      parted p noted =
+          let left = part_left p in
+          record { symbols = ap (λ (x : Work). x.symbols) left ∙ noted.symbols; firsts = ap (λ (x : Work). x.firsts) left ∙ noted.firsts; seconds = ap (λ (x : Work). x.seconds) left ∙ noted.seconds }
 
-    holding_run : (cs : List Call) (a a' : Area) → Runs cs a a' → Holding a → Holding a'
-    holding_run [] a a' runs holding = subst Holding (sym runs) holding
-    holding_run (d ∷ cs) a a' runs holding = holding_run cs runs.0 a' runs.2 (holding_on d a runs.0 (effect d a runs.0 runs.1) holding)
+-- what was concluded apart stays apart until it ends
+module _ (n : Numbers) where
+  abbrev IsApart : Area → Type 0
+  IsApart a = is_apart a.phase ≡ true
 
-    started_holding : (a a' : Area) → Started g n a a' → Holding a'
-    started_holding a a' s =
-        let after = s.beginning.1.after in
-        inl (started_held g n a a' s, record { symbols = ap (λ (x : Work). x.symbols) after; firsts = ap (λ (x : Work). x.firsts) after; seconds = ap (λ (x : Work). x.seconds) after })
+  apart_after : (d : Call) (a a' : Area) → Parts d a a' → IsApart a'
+  apart_after d a a' p = ap (λ (x : Work). is_apart x.phase) (part_left p)
 
--- no test finds anything
-none_first : (o : Option Refusal) (os : List (Option Refusal)) → o ≡ None → first_of os ≡ None → first_of (o ∷ os) ≡ None
-none_first o os none rest = ap (λ (r : Option Refusal). first_of (r ∷ os)) none ∙ rest
+  apart_on : (d : Call) (a a' : Area) → Effect d a a' → Standing n IsApart a → Standing n IsApart a'
+  apart_on d a a' e = stands_on n IsApart IsApart kept stepped (λ p was. apart_after d a a' p) e
+    where
+      kept : Keeps d a a' → IsApart a → IsApart a'
+      kept e was = subst IsApart (sym e.same) was
 
-module _ (g : Handed) (n : Numbers) (a at : Area) (s : Started g n at a) where
-  -- what began with the schemas has tested them
-  sound : either_fault g.first g.second ≡ None
-  sound = (first_none (either_fault g.first g.second) _ s.beginning.0).0
+      stepped : (s : Steps d a a') → are n s.numbers ≡ true → IsApart a → IsApart a'
+      stepped s its was =
+          let still : a.phase ≡ phase.Running → ⊥ = λ runs. false≢true (sym (ap is_apart runs) ∙ was) in
+          ap (λ (x : Work). is_apart x.phase) (turns_none (first_automaton s.handed) (second_automaton s.handed) s.does.1.stepped.taken (said a) (said a') still (step_turns s)) ∙ was
 
-  same_symbols : (w : Work) → other_symbols w g.first g.second ≡ None
-  same_symbols w =
-      let kept = (first_none (kept_from (said at) g.first g.second s.event) [] (first_none (either_fault g.first g.second) _ s.beginning.0).1).0 in
-      let differ = fails _ _ (first_none (other_symbols (said at) g.first g.second) _ kept).0 in
-      not_found _ w Symbols differ
+  -- the call that concludes it
+  parting : (d : Call) (a a' : Area) → is_parting d ≡ true → Does d a a' → IsApart a'
+  parting (conclude c (Ok (concluded.Apart k count claim))) a a' is does = apart_after (conclude c (Ok (concluded.Apart k count claim))) a a' (record { claim = c; kind = k; count = count; apart = claim; is = refl; does = does })
+  parting d a a' is does = absurd (false≢true is)
 
-  -- nothing keeps an apart area from a document of them, where the scratch suffices
-  none_early : (w : Work) (k : Kind) (slots levels : ℕ) → w.phase ≡ phase.Apart k → Held n w → Noted g w → 272 ≤ slots → 4160 ≤ levels → early_refusal w g.first g.second n slots levels ≡ None
-  none_early w k slots levels apart held noted many deep =
-      let its = claimed n w held in
-      let counts : other_counts w g.first g.second ≡ None = not_found _ w Schemas (not_from_true _ (and_from _ _ (eq-eqb _ _ noted.symbols) (and_from _ _ (eq-eqb _ _ noted.firsts) (eq-eqb _ _ noted.seconds)))) in
-      none_first _ _ sound
-      (none_first _ _
-      (none_first _ _ (same_symbols w)
-      (none_first _ _ its.0
-      (none_first _ _ its.1
-      (none_first _ _ counts
-      (none_first _ _ (ap (λ (p : Phase). by_phase w (decided p Write)) apart)
-      (none_first _ _ (cond-false (ltb slots 272) _ None (le-ltb slots 272 many))
-      (none_first _ _ (cond-false (ltb levels 4160) _ None (le-ltb levels 4160 deep)) refl)))))))
-      refl)
+  apart_since : (cs : List Call) (a now : Area) → Runs cs a now → Held n (said a) → some_own n is_parting cs ≡ true → Standing n IsApart now
+  apart_since [] a now runs held so = absurd (false≢true so)
+  apart_since (d ∷ cs) a now runs held so =
+      ⊎_elim
+      (λ on. ⊎_elim (λ here. along (inl (on, parting d a runs.0 (and_parts (is_made_with n d) (is_parting d) here).1 runs.1))) (λ later. apart_since cs runs.0 now runs.2 on later) (or_cases (is_made_with n d && is_parting d) (some_own n is_parting cs) so))
+      (λ gone. along (inr gone))
+      (held_on n (effect d a runs.0 runs.1) held)
+    where
+      along : Standing n IsApart runs.0 → Standing n IsApart now
+      along = stands_along n IsApart apart_on cs runs.0 now runs.2
+
+-- a phase that is apart is so by a kind
+by_kind : (p : Phase) → is_apart p ≡ true → (k : Kind) × (p ≡ phase.Apart k)
+by_kind (phase.Apart k) is = (k, refl)
+by_kind p is = absurd (false≢true is)
+
+pub apart : (a : Area) (c : Comparison a) → ApartAndHolder c → (k : Kind) × ((said c.now).phase ≡ phase.Apart k)
+apart a c on = by_kind c.now.phase (stands_now c.claim (λ x. is_apart x.phase ≡ true) c.now (apart_since c.claim c.since c.begun c.now c.goes_on (started_held c) on.parted) on.holder)
 
 -- while it is apart, the broken pair of a comparison of the two schemas has a document
-not_lacking : (h : Handed) (w : Work) (k : Kind) → w.phase ≡ phase.Apart k → Grown (left_of h) (right_of h) w → NoDocument (left_of h) (right_of h) w → ⊥
+not_lacking : (g : Handed) (a : Area) (k : Kind) → a.phase ≡ phase.Apart k → GrownFor g a → NoDocument (first_automaton g) (second_automaton g) (said a) → ⊥
 unfolding HasDocument
-not_lacking h w k apart grown lacks =
-    let A = left_of h in
-    let B = right_of h in
+not_lacking g a k apart grown lacks =
+    let A = first_automaton g in
+    let B = second_automaton g in
+    let w = said a in
     let last : LastBroken A B w k = subst (Stands A B w) apart grown.stands in
     let at : slice_get w.pairs (broken_index w) ≡ Some last.pair = ap (slice_get w.pairs) (last_index A B w k last) ∙ last.at in
     ⊎_elim
@@ -127,78 +114,33 @@ not_lacking h w k apart grown lacks =
     (λ none. none-some _ (subst (λ (es : List Listed). slice_get es (broken_index w) ≡ Some last.pair) none.1 at))
     grown.rooted
 
--- what was concluded apart stays apart until it ends
-module _ (n : Numbers) where
-  abbrev Parted : Area → Type 0
-  Parted a = (Held n (said a) × (is_apart a.phase ≡ true)) ⊎ Gone n (said a)
+module _ {a : Area} (c : Comparison a) where
+  -- the counts of its schemas are noted as long as its claim is the holder
+  now_noted : ApartAndHolder c → Noted c.schemas.first c.schemas.second (said c.now)
+  now_noted on =
+      let T = c.schemas.first in
+      let U = c.schemas.second in
+      let after = (started_so c).does.1.after in
+      let begun : Noted T U (said c.begun) = record { symbols = ap (λ (x : Work). x.symbols) after; firsts = ap (λ (x : Work). x.firsts) after; seconds = ap (λ (x : Work). x.seconds) after } in
+      stands_now c.claim (λ x. Noted T U (said x)) c.now (stands_along c.claim (λ x. Noted T U (said x)) (noted_on c.claim T U) c.since c.begun c.now c.goes_on (inl (started_held c, begun))) on.holder
 
-  turned_apart : (a' : Area) (w : Work) (k : Kind) → said a' ≡ in_phase w (phase.Apart k) → is_apart a'.phase ≡ true
-  turned_apart a' w k left = ap (λ (x : Work). is_apart x.phase) left
+  -- so nothing is refused before a document is looked for
+  not_early : ApartAndHolder c → (e : Refusal) → (r : DocumentRefused c e) → early_refusal (said c.now) r.handed.first r.handed.second c.claim r.slots r.levels ≡ None
+  not_early on e r =
+      let T = c.schemas.first in
+      let U = c.schemas.second in
+      let w = said c.now in
+      let s = started_so c in
+      let may = begin_permitted (said c.at) T U s.event s.does.0 in
+      let there = apart a c on in
+      let none = nothing_early w c.claim T U there.0 r.slots r.levels may.0 (same_symbols w T U (said c.at) may.1) (now_noted on) (holder_held w c.claim on.holder) there.1 r.enough_slots r.enough_levels in
+      ap₂ (λ (T : Tables) (U : Tables). early_refusal w T U c.claim r.slots r.levels) (sym r.same.first) (sym r.same.second) ∙ none
 
-  parted_on : (d : Call) (a a' : Area) → Effect d a a' → Parted a → Parted a'
-  parted_on d a a' e (inr gone) = inr (gone_on n a a' d e gone)
-  parted_on d a a' (keeps left none) (inl s) = subst Parted (sym left) (inl s)
-  parted_on d a a' (begins h claim e begun made how) (inl s) = inr (begun_ends n a a' e h claim begun s.0)
-  parted_on d a a' (steps m h k slots answer is stepping) (inl s) =
-      let still : a.phase ≡ phase.Running → ⊥ = λ runs. false≢true (sym (ap is_apart runs) ∙ s.1) in
-      let same : said a' ≡ said a = turns_none (automaton h.first h.first_sets) (automaton h.second h.second_sets) stepping.1.stepped.taken (said a) (said a') still stepping.1.stepped.turns in
-      inl (held_steps n a a' m h k slots answer stepping s.0, ap (λ (x : Work). is_apart x.phase) same ∙ s.1)
-  parted_on d a a' (parts c k count claim is concluding) (inl s) = inl (held_parts n a a' c k count claim concluding s.0, turned_apart a' (said a) k concluding.1.4)
-  parted_on d a a' (ends m h made which freed) (inl s) = inr (end_ends n a a' freed s.0)
-
-  parted_run : (cs : List Call) (a now : Area) → Runs cs a now → Parted a → Parted now
-  parted_run [] a now runs parted = subst Parted (sym runs) parted
-  parted_run (d ∷ cs) a now runs parted = parted_run cs runs.0 now runs.2 (parted_on d a runs.0 (effect d a runs.0 runs.1) parted)
-
-  -- the call that concludes it
-  parts_it : (d : Call) (a a' : Area) → is_parting d ≡ true → Does d a a' → Held n (said a) → Parted a'
-  parts_it (conclude c (Ok (concluded.Apart k count claim))) a a' is does held = inl (held_parts n a a' c k count claim does held, turned_apart a' (said a) k does.1.4)
-  parts_it d a a' is does held = absurd (false≢true is)
-
-  parted_since : (cs : List Call) (a now : Area) → Runs cs a now → Held n (said a) → some (λ d. is_made_with n d && is_parting d) cs ≡ true → Parted now
-  parted_since [] a now runs held so = absurd (false≢true so)
-  parted_since (d ∷ cs) a now runs held so =
-      ⊎_elim
-      (λ here. parted_run cs runs.0 now runs.2 (parts_it d a runs.0 (and_parts (is_made_with n d) (is_parting d) here).1 runs.1 held))
-      (λ later.
-      ⊎_elim
-      (λ on. parted_since cs runs.0 now runs.2 on later)
-      (λ gone. parted_run cs runs.0 now runs.2 (inr gone))
-      (held_on n a runs.0 d (effect d a runs.0 runs.1) held))
-      (or_cases (is_made_with n d && is_parting d) _ so)
-
-  -- a phase that is apart is so by a kind
-  by_kind : (p : Phase) → is_apart p ≡ true → (k : Kind) × (p ≡ phase.Apart k)
-  by_kind (phase.Apart k) is = (k, refl)
-  by_kind p is = absurd (false≢true is)
-
-pub apart : (a : Area) (c : Comparison a) → own_call c is_parting ≡ true → is_holder (said c.now) c.claim ≡ true → (k : Kind) × ((said c.now).phase ≡ phase.Apart k)
-apart a c so holder =
-    let held : held_by (said c.now) c.claim.serial ≡ true = (and_parts (eqb c.claim.area c.now.number) _ holder).1 in
+pub documented : (a : Area) (c : Comparison a) → StepsOverItsOwn c → ApartAndHolder c → (e : Refusal) → DocumentRefused c e → e.fault ≡ Room
+documented a c over on e r =
+    let there = apart a c on in
+    let grown = grown_same c.schemas r.handed c.now r.same (now_grown c over on.holder) in
     ⊎_elim
-    (λ parted. by_kind c.claim c.now.phase parted.1)
-    (λ gone. absurd (not_held_by c.claim (said c.now) gone held))
-    (parted_since c.claim c.since c.begun c.now c.goes_on (started_held c.schemas c.claim c.at c.begun (started_so c)) so)
-
-pub documented : (a : Area) (c : Comparison a) → StepsOverItsOwn c → own_call c is_parting ≡ true → is_holder (said c.now) c.claim ≡ true → (h : Handed) → Same c.schemas h → (slots levels : ℕ) → 272 ≤ slots → 4160 ≤ levels → (o : List ℕ) (e : Refusal) (o' : List ℕ) (a' : Area) → Does (document c.claim h slots levels o (Err e) o') c.now a' → e.fault ≡ Room
-documented a c over so holder h same slots levels many deep o e o' a' does =
-    let g = c.schemas in
-    let n = c.claim in
-    let w = said c.now in
-    let s = started_so c in
-    let there = apart a c so holder in
-    let held : held_by w n.serial ≡ true = (and_parts (eqb n.area w.number) _ holder).1 in
-    let tables : early_refusal w h.first h.second n slots levels ≡ early_refusal w g.first g.second n slots levels = ap₂ (λ (T : Tables) (U : Tables). early_refusal w T U n slots levels) (sym same.first) (sym same.second) in
-    ⊎_elim
-    (λ holding.
-    ⊎_elim
-    (λ known.
-    let grown : Grown (left_of h) (right_of h) w = subst (λ (X : Automaton). Grown X (right_of h) w) (same_first g h same) (subst (λ (Y : Automaton). Grown (left_of g) Y w) (same_second g h same) known.1) in
-    ⊎_elim
-    (λ refused. absurd (some_not_none (sym refused.1 ∙ tables ∙ none_early g n c.begun c.at s w there.0 slots levels there.1 holding.0 holding.1 many deep)))
-    (λ answer. ⊎_elim (λ lacking. absurd (not_lacking h w there.0 there.1 grown lacking.0)) (λ long. ap (λ (r : Refusal). r.fault) long.2) answer.1.0)
-    does.0)
-    (λ gone. absurd (not_held_by n w gone held))
-    (run_known g n c.since c.begun c.now c.goes_on over (started_known g n c.at c.begun s)))
-    (λ gone. absurd (not_held_by n w gone held))
-    (holding_run g n c.since c.begun c.now c.goes_on (started_holding g n c.at c.begun s))
+    (λ refused. absurd (some_not_none (sym refused.1 ∙ not_early c on e r)))
+    (λ answer. ⊎_elim (λ lacking. absurd (not_lacking r.handed c.now there.0 there.1 grown lacking.0)) (λ long. ap (λ (x : Refusal). x.fault) long.2) answer.1.0)
+    r.does.0

@@ -1,9 +1,5 @@
 -- What a call does with an area, in one of a few ways. Assumes nothing.
-use Rattle.std.proofs.Common.{◌≡◌, ℕ, Bool, true, false, cond, eqb, ◌⊎◌, [], None, Ok, Err, sym, refl, subst, inl, inr}
-use Rattle.std.proofs.lemmas.Bool.{and_parts, eqb-true, not-false, not-true}
-use Rattle.schema.specs.Faults.{either_fault}
-use Rattle.schema.specs.Tables.{Tables}
-use Rattle.schema.proofs.Sound.{first_none, some_not_none}
+use Rattle.std.proofs.Common.{◌≡◌, ℕ, Bool, true, false, cond, ◌⊎◌, Ok, Err, sym, refl, subst, inl, inr}
 use Rattle.compare.specs.declared.area.Area.{Area}
 use Rattle.compare.specs.declared.claim.Apart.{Apart}
 use Rattle.compare.specs.declared.claim.Comparing.{Comparing}
@@ -11,99 +7,113 @@ use Rattle.compare.specs.declared.claim.Lease.{Lease}
 use Rattle.compare.specs.declared.claim.Numbers.{Numbers}
 use Rattle.compare.specs.declared.conclude.Concluded.TheVariants as concluded
 use Rattle.compare.specs.declared.event.Event.{Event}
-use Rattle.compare.specs.declared.event.Event.TheVariants.{Take, Oust, Step, Conclude}
+use Rattle.compare.specs.declared.event.Event.TheVariants.{Take, Oust, Conclude}
 use Rattle.compare.specs.declared.phase.Kind.{Kind}
-use Rattle.compare.specs.declared.phase.Phase.{Phase}
 use Rattle.compare.specs.declared.phase.Phase.TheVariants as phase
-use Rattle.compare.specs.Beginning.{Beginning, kept_from, begin_refusal}
-use Rattle.compare.specs.Concluding.{claim_refusal, Conclusion, GivesUp}
-use Rattle.compare.specs.Phases.{decided}
-use Rattle.compare.specs.Refusals.{by_phase, of_another, not_held, other_symbols, phase_refuses}
-use Rattle.compare.specs.Stepping.{Stepping, step_kept_from, step_refusal}
-use Rattle.compare.specs.Work.{Work, said, free, is_free, held_by}
-use Rattle.compare.proofs.Allowing.{fails}
-use Rattle.history.specs.Calls.{Handed, Call, take_up, oust, step, conclude, give_up, give_up_apart, Does, are, is_made_with, is_inclusion, is_giving_up, granted_by, Starts, Comparison}
-use Rattle.history.specs.Law.{is_ousting}
+use Rattle.compare.specs.Beginning.{Beginning}
+use Rattle.compare.specs.Concluding.{Conclusion, GivingUp}
+use Rattle.compare.specs.Stepping.{Turns, Stepping}
+use Rattle.compare.specs.Work.{said, free, in_phase, is_free, held_by}
+use Rattle.history.specs.Calls.{Handed, first_automaton, second_automaton, Call, take_up, oust, step, conclude, give_up, Does, are, is_made_with, is_inclusion, is_giving_up, is_ousting, granted_by, told_by, Starts}
+use Rattle.history.specs.Comparisons.{Comparison}
+use Rattle.history.proofs.Permits.{Held, held_by_near, claim_permitted, step_permitted, begin_permitted, take_free}
 
--- the claim with these numbers is the holder
-pub record Holder (w : Work) (m : Numbers) : Type 0 where
-  pub area : m.area ≡ w.number
-  pub serial : m.serial ≡ w.serial
-  pub busy : is_free w.phase ≡ false
+module _ (d : Call) (a a' : Area) where
+  -- the area stays as it was, and no steps are granted or pairs told
+  pub record Keeps : Type 0 where
+    pub same : a' ≡ a
+    pub grants : (n : Numbers) → granted_by n d ≡ 0
+    pub tells : (n : Numbers) → told_by n d ≡ 0
 
-module _ (w : Work) (m : Numbers) where
-  pub holder : of_another w m.area ≡ None → held_by w m.serial ≡ true → Holder w m
-  holder near held =
-      let parts = and_parts _ (eqb m.serial w.serial) held in
-      record { area = eqb-true m.area w.number (not-false _ (fails _ _ near)); serial = eqb-true m.serial w.serial parts.1; busy = not-true _ parts.0 }
+  -- a comparison begins, by oust or on a free area
+  pub record Begins : Type 0 where
+    pub event : Event
+    pub handed : Handed
+    pub claim : Lease Comparing
+    pub does : Beginning event handed.first handed.second handed.first_sets a (Ok claim) a'
+    pub how : (is_ousting d ≡ true) ⊎ (is_free a.phase ≡ true)
+    pub unowned : (n : Numbers) → is_made_with n d ≡ false
 
-  -- nothing is refused of the claim with these numbers
-  pub permitted : (e : Event) → claim_refusal w m e ≡ None → Holder w m × (phase_refuses w e ≡ None)
-  permitted e none =
-      let near = first_none (of_another w m.area) _ none in
-      let held = first_none (not_held w m.serial) _ near.1 in
-      (holder near.0 (not-false _ (fails _ _ held.0)), (first_none (phase_refuses w e) [] held.1).0)
+  -- a step is accepted
+  pub record Steps : Type 0 where
+    pub numbers : Numbers
+    pub handed : Handed
+    pub asked : ℕ
+    pub slots : ℕ
+    pub answer : ℕ × ℕ
+    pub is : d ≡ step numbers handed asked slots (Ok answer)
+    pub does : Stepping handed.first handed.second handed.first_sets handed.second_sets numbers asked slots a (Ok answer) a'
 
-  -- nor of a step
-  pub steps_permitted : (T U : Tables) (n slots : ℕ) → step_refusal w T U m n slots ≡ None → claim_refusal w m Step ≡ None
-  steps_permitted T U n slots none =
-      let kept = (first_none (step_kept_from w T U m n slots) [] (first_none (either_fault T U) _ none).1).0 in
-      (first_none (claim_refusal w m Step) _ (first_none (other_symbols w T U) _ kept).1).0
+  -- a conclusion apart is accepted
+  pub record Parts : Type 0 where
+    pub claim : Lease Comparing
+    pub kind : Kind
+    pub count : ℕ
+    pub apart : Lease Apart
+    pub is : d ≡ conclude claim (Ok (concluded.Apart kind count apart))
+    pub does : Conclusion a claim (Ok (concluded.Apart kind count apart)) a'
 
--- take begins on a free area alone
-pub taken_free : (w : Work) (T U : Tables) → begin_refusal w T U Take ≡ None → is_free w.phase ≡ true
-taken_free w T U none = by w.phase asked
-  where
-    kept : kept_from w T U Take ≡ None
-    kept = (first_none (kept_from w T U Take) [] (first_none (either_fault T U) _ none).1).0
+  -- the holder concludes included, or gives up
+  pub record Ends : Type 0 where
+    pub numbers : Numbers
+    pub holder : Held numbers (said a)
+    pub made : (n : Numbers) → is_made_with n d ≡ are n numbers
+    pub which : (is_inclusion d ≡ true) ⊎ (is_giving_up d ≡ true)
+    pub freed : said a' ≡ free a.number a.serial
 
-    asked : phase_refuses w Take ≡ None
-    asked = (first_none (phase_refuses w Take) _ (first_none (other_symbols w T U) _ kept).1).0
-
-    by : (p : Phase) → by_phase w (decided p Take) ≡ None → is_free p ≡ true
-    by phase.Free h = refl
-    by p h = absurd (some_not_none h)
-
--- what a call does: nothing; it begins a comparison, by oust or on a free area; or for the holder it steps, concludes apart, or ends the
--- comparison, which it concludes included or gives up
+-- what a call does
 pub data Effect (d : Call) (a a' : Area) : Type 0 where
-  keeps : a' ≡ a → ((n : Numbers) → granted_by n d ≡ 0) → Effect d a a'
-  begins : (h : Handed) (claim : Lease Comparing) (e : Event) → Beginning e h.first h.second h.first_sets a (Ok claim) a' → ((n : Numbers) → is_made_with n d ≡ false) → (is_ousting d ≡ true) ⊎ (is_free a.phase ≡ true) → Effect d a a'
-  steps : (m : Numbers) (h : Handed) (n slots : ℕ) (answer : ℕ × ℕ) → d ≡ step m h n slots (Ok answer) → Stepping h.first h.second h.first_sets h.second_sets m n slots a (Ok answer) a' → Effect d a a'
-  parts : (c : Lease Comparing) (k : Kind) (n : ℕ) (claim : Lease Apart) → d ≡ conclude c (Ok (concluded.Apart k n claim)) → Conclusion a c (Ok (concluded.Apart k n claim)) a' → Effect d a a'
-  ends : (m : Numbers) → Holder (said a) m → ((n : Numbers) → is_made_with n d ≡ are n m) → (is_inclusion d ≡ true) ⊎ (is_giving_up d ≡ true) → said a' ≡ free a.number a.serial → Effect d a a'
+  keeps : Keeps d a a' → Effect d a a'
+  begins : Begins d a a' → Effect d a a'
+  steps : Steps d a a' → Effect d a a'
+  parts : Parts d a a' → Effect d a a'
+  ends : Ends d a a' → Effect d a a'
 
--- what giving up does
-given_up : {S : Type 0} (d : Call) (a a' : Area) (c : Lease S) (n : ℕ) → ((m : Numbers) → is_made_with m d ≡ are m c.numbers) → is_giving_up d ≡ true → ((m : Numbers) → granted_by m d ≡ 0) → of_another (said a) c.numbers.area ≡ None → GivesUp a c.numbers.serial n a' → Effect d a a'
-given_up d a a' c n made gives none near up = by (held_by (said a) c.numbers.serial) refl up
+given_up : (m : Numbers) (k : ℕ) (a a' : Area) → GivingUp a m (Ok k) a' → Effect (give_up m (Ok k)) a a'
+given_up m k a a' does = by (held_by (said a) m.serial) refl does.1
   where
-    by : (b : Bool) → held_by (said a) c.numbers.serial ≡ b → cond b ((n ≡ 1) × (said a' ≡ free a.number a.serial)) ((n ≡ 0) × (a' ≡ a)) → Effect d a a'
-    by true held up = ends c.numbers (holder (said a) c.numbers near held) made (inr gives) up.1
-    by false held up = keeps up.1 none
+    by : (b : Bool) → held_by (said a) m.serial ≡ b → cond b ((k ≡ 1) × (said a' ≡ free a.number a.serial)) ((k ≡ 0) × (a' ≡ a)) → Effect (give_up m (Ok k)) a a'
+    by true held up = ends (record { numbers = m; holder = held_by_near (said a) m does.0 held; made = λ n. refl; which = inr refl; freed = up.1 })
+    by false held up = keeps (record { same = up.1; grants = λ n. refl; tells = λ n. refl })
 
 pub effect : (d : Call) (a a' : Area) → Does d a a' → Effect d a a'
-effect (take_up h (Ok c)) a a' does = begins h c Take does (λ n. refl) (inr (taken_free (said a) h.first h.second does.0))
-effect (oust h (Ok c)) a a' does = begins h c Oust does (λ n. refl) (inl refl)
-effect (step m h n slots (Ok answer)) a a' does = steps m h n slots answer refl does
-effect (conclude c (Ok (concluded.Included n))) a a' does = ends c.numbers (permitted (said a) c.numbers Conclude does.0).0 (λ n. refl) (inl refl) does.1.2
-effect (conclude c (Ok (concluded.Apart k n claim))) a a' does = parts c k n claim refl does
-effect (conclude c (Err e)) a a' does = keeps does.2 (λ n. refl)
-effect (give_up c (Ok n)) a a' does = given_up (give_up c (Ok n)) a a' c n (λ m. refl) refl (λ m. refl) does.0 does.1
-effect (give_up c (Err e)) a a' does = keeps does.2 (λ n. refl)
-effect (give_up_apart c (Ok n)) a a' does = given_up (give_up_apart c (Ok n)) a a' c n (λ m. refl) refl (λ m. refl) does.0 does.1
-effect (give_up_apart c (Err e)) a a' does = keeps does.2 (λ n. refl)
-effect d a a' does = keeps does.1 (λ n. refl)
+effect (take_up h (Ok c)) a a' does =
+    begins (record { event = Take; handed = h; claim = c; does = does; how = inr (take_free (said a) (begin_permitted (said a) h.first h.second Take does.0).2); unowned = λ n. refl })
+effect (oust h (Ok c)) a a' does = begins (record { event = Oust; handed = h; claim = c; does = does; how = inl refl; unowned = λ n. refl })
+effect (step m h asked slots (Ok answer)) a a' does = steps (record { numbers = m; handed = h; asked = asked; slots = slots; answer = answer; is = refl; does = does })
+effect (conclude c (Ok (concluded.Included n))) a a' does =
+    ends (record { numbers = c.numbers; holder = (claim_permitted (said a) c.numbers Conclude does.0).0; made = λ n. refl; which = inl refl; freed = does.1.2 })
+effect (conclude c (Ok (concluded.Apart k n claim))) a a' does = parts (record { claim = c; kind = k; count = n; apart = claim; is = refl; does = does })
+effect (conclude c (Err e)) a a' does = keeps (record { same = does.2; grants = λ n. refl; tells = λ n. refl })
+effect (give_up m (Ok k)) a a' does = given_up m k a a' does
+effect d a a' does = keeps (record { same = does.1; grants = λ n. refl; tells = λ n. refl })
+
+module _ {d : Call} {a a' : Area} where
+  -- a step is the holder's, and so is a conclusion
+  pub step_holder : (s : Steps d a a') → Held s.numbers (said a)
+  step_holder s = step_permitted (said a) s.numbers s.handed.first s.handed.second s.asked s.slots s.does.0
+
+  pub part_holder : (p : Parts d a a') → Held p.claim.numbers (said a)
+  part_holder p = (claim_permitted (said a) p.claim.numbers Conclude p.does.0).0
+
+  -- a step takes turns
+  pub step_turns : (s : Steps d a a') → Turns (first_automaton s.handed) (second_automaton s.handed) s.does.1.stepped.taken (said a) (said a')
+  step_turns s = s.does.1.stepped.turns
+
+  -- a conclusion apart changes the phase alone
+  pub part_left : (p : Parts d a a') → said a' ≡ in_phase (said a) (phase.Apart p.kind)
+  part_left p = p.does.1.4
 
 -- what began a comparison of these schemas, whose claim has these numbers
 pub record Started (g : Handed) (n : Numbers) (a a' : Area) : Type 0 where
   pub event : Event
   pub claim : Lease Comparing
   pub numbers : n ≡ claim.numbers
-  pub beginning : Beginning event g.first g.second g.first_sets a (Ok claim) a'
+  pub does : Beginning event g.first g.second g.first_sets a (Ok claim) a'
 
-pub started : (d : Call) (g : Handed) (n : Numbers) (a a' : Area) → Does d a a' → Starts d g n → Started g n a a'
-started (take_up h (Ok c)) g n a a' does is = record { event = Take; claim = c; numbers = is.1; beginning = subst (λ (x : Handed). Beginning Take x.first x.second x.first_sets a (Ok c) a') (sym is.0) does }
-started (oust h (Ok c)) g n a a' does is = record { event = Oust; claim = c; numbers = is.1; beginning = subst (λ (x : Handed). Beginning Oust x.first x.second x.first_sets a (Ok c) a') (sym is.0) does }
+started : (d : Call) (g : Handed) (n : Numbers) (a a' : Area) → Does d a a' → Starts d g n → Started g n a a'
+started (take_up h (Ok c)) g n a a' does is = record { event = Take; claim = c; numbers = is.1; does = subst (λ (x : Handed). Beginning Take x.first x.second x.first_sets a (Ok c) a') (sym is.0) does }
+started (oust h (Ok c)) g n a a' does is = record { event = Oust; claim = c; numbers = is.1; does = subst (λ (x : Handed). Beginning Oust x.first x.second x.first_sets a (Ok c) a') (sym is.0) does }
 started d g n a a' does is = absurd is
 
 -- that of a comparison

@@ -1,7 +1,7 @@
 -- The example is a history: the area after each of its calls, and what each call does. Assumes nothing.
-use Rattle.std.proofs.Common.{◌≡◌, ℕ, zero, suc, ◌+◌, ◌^◌, ◌<◌, ◌≤◌, Bool, true, false, ◌&&◌, ◌||◌, eqb, inl, inr, List, [], ◌∷◌, length, replicate, get_or, take, None, Ok, sym, refl, ap, ◌∙◌, subst, lit<, arith}
+use Rattle.std.proofs.Common.{◌≡◌, ℕ, zero, suc, ◌+◌, ◌^◌, ◌<◌, ◌≤◌, Bool, true, false, ◌&&◌, ◌||◌, eqb, inr, List, [], ◌∷◌, length, replicate, get_or, take, None, Ok, sym, refl, ap, ◌∙◌, subst, lit<, arith}
 use Rattle.std.proofs.lemmas.List.{length-replicate, get_or-replicate}
-use Rattle.std.proofs.lemmas.Bool.{false≢true, ne_eqb}
+use Rattle.std.proofs.lemmas.Bool.{ne_eqb}
 use Rattle.codec.specs.Numbers.{overwritten}
 use Rattle.domain.specs.Kinds.{bit}
 use Rattle.schema.proofs.Members.{added, bit_zero}
@@ -15,15 +15,14 @@ use Rattle.compare.specs.declared.phase.Verdict.TheVariants as verdict
 use Rattle.compare.specs.Pairs.{blank, listed, Fits, Kept}
 use Rattle.compare.specs.declared.event.Event.TheVariants.{Take}
 use Rattle.compare.specs.Beginning.{begin_refusal, Begins}
-use Rattle.compare.specs.Breaking.{Broken}
-use Rattle.compare.specs.Stepping.{Examines, Stepped, is_running}
-use Rattle.schema.specs.Automata.{Automaton}
-use Rattle.compare.specs.Work.{Work, said, start, free}
+use Rattle.compare.specs.declared.step.TheConstants.{MOST_STEPS}
+use Rattle.compare.specs.Stepping.{Stepped}
+use Rattle.compare.specs.Work.{Work, said, start, free, begun}
 use Rattle.compare.proofs.Keeping.{kept_from}
 use Rattle.history.specs.Calls.{take_up, Does, Runs}
-use Rattle.history.specs.Example.{pair_of, claim, example, ExampleRuns}
+use Rattle.history.specs.Example.{pair_of, claim, room_for_six, example, ExampleRuns}
 use Rattle.history.specs.Marked.{zero_alone, U, V, over_zero}
-use Rattle.history.proofs.Marked.{alone_U, alone_V, dead_symbols, one_child, u_v_unbroken, v_u_document}
+use Rattle.history.proofs.Marked.{alone_U, alone_V, broken_examined, one_turn, u_v_examined, v_u_broken, v_u_document}
 
 -- the slots of a list with one entry, the pair (0, 0)
 abbrev slots : List Listed
@@ -77,20 +76,6 @@ one_pair = record { firsts = 1; seconds = 1; entries = slots; length = 1; bits =
 abbrev listing : ℕ → Phase → ℕ → Area
 listing serial p examined = record { number = 7; serial = serial; phase = p; symbols = 2; pairs = one_pair; examined = examined }
 
--- a comparison of V and U is broken in content at the pair (0, 0)
-abbrev refused : Broken (over_zero V) (over_zero U) Content 0 0
-refused = (0 ∷ [], one_child, refl)
-
--- one turn of a running area with that list
-one_turn : (A B : Automaton) (serial : ℕ) (p : Phase) → Examines A B (said (listing serial phase.Running 0)) (said (listing serial p 1)) → (p ≡ phase.Running → ⊥) → (n : ℕ) → Stepped A B (suc n) (said (listing serial phase.Running 0)) (said (listing serial p 1))
-one_turn A B serial p examines stands n =
-    record {
-      taken = 1;
-      few = omega arith;
-      turns = (said (listing serial phase.Running 0), refl, refl, inr examines);
-      until = λ runs. absurd (stands runs);
-    }
-
 -- the area that is free again, with the list that it had as it was made
 module _ (a : Area) (made : said a ≡ free 7 0) where
   abbrev free_again : ℕ → Area
@@ -105,13 +90,12 @@ module _ (a : Area) (made : said a ≡ free 7 0) where
       subst (λ (w : Work). (begin_refusal w U V Take ≡ None) × Begins U V zero_alone w (claim (serial + 1)) (said (listing (serial + 1) phase.Running 0))) (sym is)
       (may, record { live = true; decides = (λ yes. alone_U, λ alive. refl); after = refl; number = refl; serial = refl })
 
-  -- U and V have one unbroken pair
-  u_v_examined : Examines (over_zero U) (over_zero V) (said (listing 3 phase.Running 0)) (said (listing 3 (phase.Ready verdict.Included) 1))
-  u_v_examined = record { pair = start; at = refl; outcome = inr (u_v_unbroken, ((λ a. false), dead_symbols, refl)) }
+  -- the step of V against U, and that of U against V
+  v_u_step : Stepped (over_zero V) (over_zero U) MOST_STEPS (said (listing 2 phase.Running 0)) (said (listing 2 (phase.Ready (verdict.Apart Content)) 1))
+  v_u_step = one_turn (over_zero V) (over_zero U) (begun (free 7 1) V U true) (said (listing 2 (phase.Ready (verdict.Apart Content)) 1)) (verdict.Apart Content) MOST_STEPS refl (broken_examined V U (free 7 1) v_u_broken) refl (omega arith)
 
-  -- V and U have one pair, which is broken
-  v_u_examined : Examines (over_zero V) (over_zero U) (said (listing 2 phase.Running 0)) (said (listing 2 (phase.Ready (verdict.Apart Content)) 1))
-  v_u_examined = record { pair = start; at = refl; outcome = inl (Content, refused, refl) }
+  u_v_step : Stepped (over_zero U) (over_zero V) 1 (said (listing 3 phase.Running 0)) (said (listing 3 (phase.Ready verdict.Included) 1))
+  u_v_step = one_turn (over_zero U) (over_zero V) (begun (free 7 2) U V true) (said (listing 3 (phase.Ready verdict.Included) 1)) verdict.Included 1 refl (u_v_examined (free 7 2)) refl (omega arith)
 
   runs : Runs example a (free_again 3)
   runs = (
@@ -125,16 +109,16 @@ module _ (a : Area) (made : said a ≡ free 7 0) where
         (refl, refl),
         (
           listing 2 (phase.Ready (verdict.Apart Content)) 1,
-          (refl, record { stepped = one_turn (over_zero V) (over_zero U) 2 (phase.Ready (verdict.Apart Content)) v_u_examined (λ same. false≢true (ap is_running same)) 4095; count = refl; mark = refl }),
+          (refl, record { stepped = v_u_step; count = refl; mark = refl }),
           (
             listing 2 (phase.Apart Content) 1,
             (refl, (refl, refl, refl, refl, refl)),
             (
               listing 2 (phase.Apart Content) 1,
-              (([], refl, (refl, refl, refl, refl)), refl),
+              (([], refl, (refl, refl, refl)), refl),
               (
                 listing 2 (phase.Apart Content) 1,
-                (inr (refl, (record { way = []; tree = v_u_document.0; document = (Content, refl, v_u_document.1) }, sym (ap length v_u_document.2), omega arith, omega arith, ap (overwritten (9 ∷ 9 ∷ 9 ∷ 9 ∷ 9 ∷ 9 ∷ []) 0) (sym v_u_document.2))), refl),
+                (inr (refl, (record { way = []; tree = v_u_document.tree; document = (Content, refl, v_u_document.document) }, sym (ap length v_u_document.written), omega arith, omega arith, ap (overwritten room_for_six 0) (sym v_u_document.written))), refl),
                 (
                   listing 2 (phase.Apart Content) 1,
                   (refl, (refl, refl)),
@@ -146,7 +130,7 @@ module _ (a : Area) (made : said a ≡ free 7 0) where
                       begins (free_again 2) 2 (said_free 2) refl,
                       (
                         listing 3 (phase.Ready verdict.Included) 1,
-                        (refl, record { stepped = one_turn (over_zero U) (over_zero V) 3 (phase.Ready verdict.Included) u_v_examined (λ same. false≢true (ap is_running same)) 0; count = refl; mark = refl }),
+                        (refl, record { stepped = u_v_step; count = refl; mark = refl }),
                         (
                           free_again 3,
                           (refl, (refl, refl, said_free 3)),

@@ -1,33 +1,27 @@
--- Whether an area is a comparison's: the comparison holds it, or is gone from it for good. Assumes nothing.
+-- Whether an area is a comparison's: the comparison holds it, or is gone from it for good. Assumes
+-- nothing.
 use Rattle.std.proofs.Common.{◌≡◌, ℕ, zero, suc, ◌+◌, ◌<◌, ◌≤◌, Bool, true, false, cond, eqb, ◌⊎◌, List, [], ◌∷◌, Ok, sym, refl, ap, ◌∙◌, subst, inl, inr, ⊎_elim, arith}
-use Rattle.std.proofs.lemmas.Bool.{and_from, and_parts, both_ways, eq-eqb, eqb-true, or_cases, false≢true}
+use Rattle.std.specs.List.{list_any}
+use Rattle.std.proofs.lemmas.Bool.{and_from, and_parts, both_ways, eq-eqb, eqb-true, not-true, or_cases, false≢true}
 use Rattle.schema.specs.Automata.{Automaton}
-use Rattle.schema.specs.Tables.{automaton}
 use Rattle.compare.specs.declared.area.Area.{Area}
-use Rattle.compare.specs.declared.claim.Apart.{Apart}
 use Rattle.compare.specs.declared.claim.Comparing.{Comparing}
 use Rattle.compare.specs.declared.claim.Lease.{Lease}
 use Rattle.compare.specs.declared.claim.Numbers.{Numbers}
-use Rattle.compare.specs.declared.conclude.Concluded.TheVariants as concluded
 use Rattle.compare.specs.declared.event.Event.{Event}
-use Rattle.compare.specs.declared.event.Event.TheVariants.{Take, Oust, Step, Conclude}
-use Rattle.compare.specs.declared.phase.Kind.{Kind}
+use Rattle.compare.specs.declared.event.Event.TheVariants.{Take, Oust}
 use Rattle.compare.specs.declared.phase.Phase.TheVariants as phase
 use Rattle.compare.specs.declared.phase.Verdict.TheVariants as verdict
 use Rattle.compare.specs.Beginning.{Beginning}
-use Rattle.compare.specs.Concluding.{Conclusion}
-use Rattle.compare.specs.Stepping.{Turn, Turns, Stepping}
-use Rattle.compare.specs.Work.{Work, said, free, is_free, begun}
-use Rattle.history.specs.Calls.{Handed, Call, take_up, oust, Does, Runs, are, is_beginning, is_made_with, some}
-use Rattle.history.proofs.Effects.{Holder, permitted, steps_permitted, Effect, keeps, begins, steps, parts, ends, effect, Started}
+use Rattle.compare.specs.Stepping.{Turn, Turns}
+use Rattle.compare.specs.Strangers.{is_holder}
+use Rattle.compare.specs.Work.{Work, said, is_free, held_by}
+use Rattle.history.specs.Calls.{Handed, first_automaton, second_automaton, Call, take_up, oust, Does, Runs, are, is_beginning, is_made_with}
+use Rattle.history.specs.Comparisons.{Comparison}
+use Rattle.history.proofs.Effects.{Keeps, Begins, Steps, Parts, Ends, Effect, keeps, begins, steps, parts, ends, effect, step_holder, part_holder, step_turns, part_left, started_so}
+use Rattle.history.proofs.Permits.{Held, holder_held}
 
--- the comparison whose claim has these numbers holds the area
-pub record Held (n : Numbers) (w : Work) : Type 0 where
-  pub number : w.number ≡ n.area
-  pub serial : w.serial ≡ n.serial
-  pub busy : is_free w.phase ≡ false
-
--- it has ended: another one has begun since, or none yet
+-- the comparison whose claim has these numbers has ended: another one has begun since, or none yet
 pub record Gone (n : Numbers) (w : Work) : Type 0 where
   pub number : w.number ≡ n.area
   pub past : (n.serial < w.serial) ⊎ ((w.serial ≡ n.serial) × (is_free w.phase ≡ true))
@@ -37,21 +31,32 @@ module _ (n : Numbers) where
   pub are_these : (m : Numbers) → are n m ≡ true → (m.area ≡ n.area) × (m.serial ≡ n.serial)
   are_these m h = let parts = and_parts (eqb m.area n.area) _ h in (eqb-true m.area n.area parts.0, eqb-true m.serial n.serial parts.1)
 
+  pub these : (m : Numbers) → m ≡ n → are n m ≡ true
+  these m same = and_from _ _ (eq-eqb m.area n.area (ap (λ (x : Numbers). x.area) same)) (eq-eqb m.serial n.serial (ap (λ (x : Numbers). x.serial) same))
+
   -- the holder's numbers are these, where the comparison holds the area
-  pub holders : (w : Work) (m : Numbers) → Held n w → Holder w m → are n m ≡ true
-  holders w m held h = and_from _ _ (eq-eqb m.area n.area (h.area ∙ held.number)) (eq-eqb m.serial n.serial (h.serial ∙ held.serial))
+  pub holders : (w : Work) (m : Numbers) → Held n w → Held m w → are n m ≡ true
+  holders w m held h = and_from _ _ (eq-eqb m.area n.area (sym h.number ∙ held.number)) (eq-eqb m.serial n.serial (sym h.serial ∙ held.serial))
 
   -- and no holder's are, where it has ended
-  pub not_holders : (w : Work) (m : Numbers) → Gone n w → Holder w m → are n m ≡ true → ⊥
-  not_holders w m gone h these =
-      let serial : m.serial ≡ n.serial = (are_these m these).1 in
+  pub not_holders : (w : Work) (m : Numbers) → Gone n w → Held m w → are n m ≡ true → ⊥
+  not_holders w m gone h its =
+      let serial : m.serial ≡ n.serial = (are_these m its).1 in
       ⊎_elim (λ later. omega (arith, later, serial, h.serial)) (λ none. both_ways (is_free w.phase) h.busy none.1) gone.past
 
+  pub not_holder : (w : Work) → Gone n w → is_holder w n ≡ true → ⊥
+  not_holder w gone so = not_holders w n gone (holder_held w n so) (these n refl)
+
+  pub not_held_by : (w : Work) → Gone n w → held_by w n.serial ≡ true → ⊥
+  not_held_by w gone held =
+      let parts = and_parts _ (eqb n.serial w.serial) held in
+      not_holders w n gone (record { number = gone.number; serial = sym (eqb-true n.serial w.serial parts.1); busy = not-true _ parts.0 }) (these n refl)
+
 -- what neither a step nor a conclusion apart changes: number and serial, and that there is a comparison
-pub record Onward (w w' : Work) : Type 0 where
-  pub number : w'.number ≡ w.number
-  pub serial : w'.serial ≡ w.serial
-  pub busy : is_free w.phase ≡ false → is_free w'.phase ≡ false
+record Onward (w w' : Work) : Type 0 where
+  number : w'.number ≡ w.number
+  serial : w'.serial ≡ w.serial
+  busy : is_free w.phase ≡ false → is_free w'.phase ≡ false
 
 module _ (A B : Automaton) where
   turn_onward : (w w' : Work) → Turn A B w w' → Onward w w'
@@ -76,19 +81,19 @@ module _ (A B : Automaton) where
       let on = turn_onward turns.0 w' turns.3 in
       record { number = on.number ∙ v.number; serial = on.serial ∙ v.serial; busy = λ b. on.busy (v.busy b) }
 
+module _ {d : Call} {a a' : Area} where
+  step_onward : Steps d a a' → Onward (said a) (said a')
+  step_onward s = turns_onward (first_automaton s.handed) (second_automaton s.handed) s.does.1.stepped.taken (said a) (said a') (step_turns s)
+
+  part_onward : Parts d a a' → Onward (said a) (said a')
+  part_onward p = record { number = ap (λ (x : Work). x.number) (part_left p); serial = ap (λ (x : Work). x.serial) (part_left p); busy = λ b. ap (λ (x : Work). is_free x.phase) (part_left p) }
+
 module _ (n : Numbers) (a a' : Area) where
   held_onward : Onward (said a) (said a') → Held n (said a) → Held n (said a')
   held_onward on held = record { number = on.number ∙ held.number; serial = on.serial ∙ held.serial; busy = on.busy held.busy }
 
-  -- a step keeps it, and so does a conclusion apart
-  pub held_steps : (m : Numbers) (h : Handed) (k slots : ℕ) (answer : ℕ × ℕ) → Stepping h.first h.second h.first_sets h.second_sets m k slots a (Ok answer) a' → Held n (said a) → Held n (said a')
-  held_steps m h k slots answer stepping = held_onward (turns_onward (automaton h.first h.first_sets) (automaton h.second h.second_sets) stepping.1.stepped.taken (said a) (said a') stepping.1.stepped.turns)
-
-  pub held_parts : (c : Lease Comparing) (k : Kind) (count : ℕ) (claim : Lease Apart) → Conclusion a c (Ok (concluded.Apart k count claim)) a' → Held n (said a) → Held n (said a')
-  held_parts c k count claim concluding = held_onward (record { number = ap (λ (x : Work). x.number) concluding.1.4; serial = ap (λ (x : Work). x.serial) concluding.1.4; busy = λ b. ap (λ (x : Work). is_free x.phase) concluding.1.4 })
-
-  -- another comparison's
-  gone_onward : (m : Numbers) → Holder (said a) m → (said a').number ≡ (said a).number → (said a').serial ≡ (said a).serial → Gone n (said a) → Gone n (said a')
+  -- another comparison's step or conclusion
+  gone_onward : (m : Numbers) → Held m (said a) → (said a').number ≡ (said a).number → (said a').serial ≡ (said a).serial → Gone n (said a) → Gone n (said a')
   gone_onward m h near still gone =
       record {
         number = near ∙ gone.number;
@@ -97,71 +102,103 @@ module _ (n : Numbers) (a a' : Area) where
 
   -- a beginning gives the area the next serial
   begun_gone : (e : Event) (h : Handed) (claim : Lease Comparing) → Beginning e h.first h.second h.first_sets a (Ok claim) a' → (said a).number ≡ n.area → n.serial ≤ (said a).serial → Gone n (said a')
-  begun_gone e h claim begun near low =
-      record { number = ap (λ (x : Work). x.number) begun.1.after ∙ near; past = inl (omega (arith, low, ap (λ (x : Work). x.serial) begun.1.after)) }
+  begun_gone e h claim does near low =
+      record { number = ap (λ (x : Work). x.number) does.1.after ∙ near; past = inl (omega (arith, low, ap (λ (x : Work). x.serial) does.1.after)) }
 
-  gone_low : Gone n (said a) → n.serial ≤ (said a).serial
-  gone_low gone = ⊎_elim (λ later. omega (arith, later)) (λ none. omega (arith, none.0)) gone.past
+module _ (n : Numbers) {d : Call} {a a' : Area} where
+  -- a step is its own where it holds the area, and it holds it on; so it is with a conclusion apart
+  pub own_step : (s : Steps d a a') → Held n (said a) → are n s.numbers ≡ true
+  own_step s held = holders n (said a) s.numbers held (step_holder s)
 
-  -- a comparison that has ended stays so
-  pub gone_on : (d : Call) → Effect d a a' → Gone n (said a) → Gone n (said a')
-  gone_on d (keeps left none) gone = subst (λ (x : Area). Gone n (said x)) (sym left) gone
-  gone_on d (begins h claim e begun made how) gone = begun_gone e h claim begun gone.number (gone_low gone)
-  gone_on d (steps m h k slots answer is stepping) gone =
-      let on = turns_onward (automaton h.first h.first_sets) (automaton h.second h.second_sets) stepping.1.stepped.taken (said a) (said a') stepping.1.stepped.turns in
-      gone_onward m (permitted (said a) m Step (steps_permitted (said a) m h.first h.second k slots stepping.0)).0 on.number on.serial gone
-  gone_on d (parts c k count claim is concluding) gone = gone_onward c.numbers (permitted (said a) c.numbers Conclude concluding.0).0 (ap (λ (x : Work). x.number) concluding.1.4) (ap (λ (x : Work). x.serial) concluding.1.4) gone
-  gone_on d (ends m h made which freed) gone = gone_onward m h (ap (λ (x : Work). x.number) freed) (ap (λ (x : Work). x.serial) freed) gone
+  pub held_step : Steps d a a' → Held n (said a) → Held n (said a')
+  held_step s = held_onward n a a' (step_onward s)
+
+  pub held_part : Parts d a a' → Held n (said a) → Held n (said a')
+  held_part p = held_onward n a a' (part_onward p)
 
   -- a beginning ends one that holds the area, and so does what frees it
-  pub begun_ends : (e : Event) (h : Handed) (claim : Lease Comparing) → Beginning e h.first h.second h.first_sets a (Ok claim) a' → Held n (said a) → Gone n (said a')
-  begun_ends e h claim begun held = begun_gone e h claim begun held.number (omega (arith, held.serial))
+  pub begin_ends : Begins d a a' → Held n (said a) → Gone n (said a')
+  begin_ends b held = begun_gone n a a' b.event b.handed b.claim b.does held.number (omega (arith, held.serial))
 
-  pub end_ends : said a' ≡ free a.number a.serial → Held n (said a) → Gone n (said a')
-  end_ends freed held = record { number = ap (λ (x : Work). x.number) freed ∙ held.number; past = inr (ap (λ (x : Work). x.serial) freed ∙ held.serial, ap (λ (x : Work). is_free x.phase) freed) }
+  pub end_ends : Ends d a a' → Held n (said a) → Gone n (said a')
+  end_ends e held = record { number = ap (λ (x : Work). x.number) e.freed ∙ held.number; past = inr (ap (λ (x : Work). x.serial) e.freed ∙ held.serial, ap (λ (x : Work). is_free x.phase) e.freed) }
 
   -- one that holds the area holds it on, or ends
-  pub held_on : (d : Call) → Effect d a a' → Held n (said a) → Held n (said a') ⊎ Gone n (said a')
-  held_on d (keeps left none) held = inl (subst (λ (x : Area). Held n (said x)) (sym left) held)
-  held_on d (begins h claim e begun made how) held = inr (begun_ends e h claim begun held)
-  held_on d (steps m h k slots answer is stepping) held = inl (held_steps m h k slots answer stepping held)
-  held_on d (parts c k count claim is concluding) held = inl (held_parts c k count claim concluding held)
-  held_on d (ends m h made which freed) held = inr (end_ends freed held)
+  pub held_on : Effect d a a' → Held n (said a) → Held n (said a') ⊎ Gone n (said a')
+  held_on (keeps k) held = inl (subst (λ (x : Area). Held n (said x)) (sym k.same) held)
+  held_on (begins b) held = inr (begin_ends b held)
+  held_on (steps s) held = inl (held_step s held)
+  held_on (parts p) held = inl (held_part p held)
+  held_on (ends e) held = inr (end_ends e held)
 
-  -- a call that begins one ends all others
-  pub beginning_ends : (d : Call) → is_beginning d ≡ true → Does d a a' → (said a).number ≡ n.area → n.serial ≤ (said a).serial → Gone n (said a')
-  beginning_ends (take_up h (Ok c)) so does near low = begun_gone Take h c does near low
-  beginning_ends (oust h (Ok c)) so does near low = begun_gone Oust h c does near low
-  beginning_ends d so does near low = absurd (false≢true so)
+  -- one that has ended stays so
+  pub gone_on : Effect d a a' → Gone n (said a) → Gone n (said a')
+  gone_on (keeps k) gone = subst (λ (x : Area). Gone n (said x)) (sym k.same) gone
+  gone_on (begins b) gone = begun_gone n a a' b.event b.handed b.claim b.does gone.number (⊎_elim (λ later. omega (arith, later)) (λ none. omega (arith, none.0)) gone.past)
+  gone_on (steps s) gone = gone_onward n a a' s.numbers (step_holder s) (step_onward s).number (step_onward s).serial gone
+  gone_on (parts p) gone = gone_onward n a a' p.claim.numbers (part_holder p) (part_onward p).number (part_onward p).serial gone
+  gone_on (ends e) gone = gone_onward n a a' e.numbers e.holder (ap (λ (x : Work). x.number) e.freed) (ap (λ (x : Work). x.serial) e.freed) gone
 
-  -- a call with the claim or the numbers of one that has ended changes nothing
-  pub gone_same : (d : Call) → Effect d a a' → Gone n (said a) → is_made_with n d ≡ true → a' ≡ a
-  gone_same d (keeps left none) gone its = left
-  gone_same d (begins h claim e begun made how) gone its = absurd (both_ways _ (made n) its)
-  gone_same d (steps m h k slots answer is stepping) gone its =
-      absurd (not_holders n (said a) m gone (permitted (said a) m Step (steps_permitted (said a) m h.first h.second k slots stepping.0)).0 (sym (ap (is_made_with n) is) ∙ its))
-  gone_same d (parts c k count claim is concluding) gone its = absurd (not_holders n (said a) c.numbers gone (permitted (said a) c.numbers Conclude concluding.0).0 (sym (ap (is_made_with n) is) ∙ its))
-  gone_same d (ends m h made which freed) gone its = absurd (not_holders n (said a) m gone h (sym (made n) ∙ its))
+  -- and a call with its claim or numbers changes nothing
+  pub gone_same : Effect d a a' → Gone n (said a) → is_made_with n d ≡ true → a' ≡ a
+  gone_same (keeps k) gone its = k.same
+  gone_same (begins b) gone its = absurd (both_ways _ (b.unowned n) its)
+  gone_same (steps s) gone its = absurd (not_holders n (said a) s.numbers gone (step_holder s) (sym (ap (is_made_with n) s.is) ∙ its))
+  gone_same (parts p) gone its = absurd (not_holders n (said a) p.claim.numbers gone (part_holder p) (sym (ap (is_made_with n) p.is) ∙ its))
+  gone_same (ends e) gone its = absurd (not_holders n (said a) e.numbers gone e.holder (sym (e.made n) ∙ its))
+
+-- how an area stands for the comparison whose claim has these numbers: the comparison holds it, and
+-- this is so; or has ended
+abbrev pub Standing : Numbers → (Area → Type 0) → Area → Type 0
+Standing n P a = (Held n (said a) × P a) ⊎ Gone n (said a)
+
+module _ (n : Numbers) (P : Area → Type 0) where
+  -- as long as its claim is the holder, this is so
+  pub stands_now : (a : Area) → Standing n P a → is_holder (said a) n ≡ true → P a
+  stands_now a (inl now) so = now.1
+  stands_now a (inr gone) so = absurd (not_holder n (said a) gone so)
+
+  -- what a call makes of this, from what it makes of it where it keeps the area, where it is a step of
+  -- its own, and where it concludes apart
+  pub stands_on : (P' : Area → Type 0) {d : Call} {a a' : Area} → (Keeps d a a' → P a → P' a') → ((s : Steps d a a') → are n s.numbers ≡ true → P a → P' a') → (Parts d a a' → P a → P' a') → Effect d a a' → Standing n P a → Standing n P' a'
+  stands_on P' kept stepped parted e (inr gone) = inr (gone_on n e gone)
+  stands_on P' kept stepped parted (keeps k) (inl now) = inl (subst (λ (x : Area). Held n (said x)) (sym k.same) now.0, kept k now.1)
+  stands_on P' kept stepped parted (begins b) (inl now) = inr (begin_ends n b now.0)
+  stands_on P' kept stepped parted (steps s) (inl now) = inl (held_step n s now.0, stepped s (own_step n s now.0) now.1)
+  stands_on P' kept stepped parted (parts p) (inl now) = inl (held_part n p now.0, parted p now.1)
+  stands_on P' kept stepped parted (ends e) (inl now) = inr (end_ends n e now.0)
+
+  -- what each call keeps, a list of calls keeps
+  pub stands_along : ((d : Call) (a a' : Area) → Effect d a a' → Standing n P a → Standing n P a') → (cs : List Call) (a now : Area) → Runs cs a now → Standing n P a → Standing n P now
+  stands_along on [] a now runs stands = subst (Standing n P) (sym runs) stands
+  stands_along on (d ∷ cs) a now runs stands = stands_along on cs runs.0 now runs.2 (on d a runs.0 (effect d a runs.0 runs.1) stands)
 
 module _ (n : Numbers) where
   -- ended once, ended for all calls
-  pub run_gone : (cs : List Call) (a a' : Area) → Runs cs a a' → Gone n (said a) → Gone n (said a')
-  run_gone [] a a' runs gone = subst (λ (x : Area). Gone n (said x)) (sym runs) gone
-  run_gone (c ∷ cs) a a' runs gone = run_gone cs runs.0 a' runs.2 (gone_on n a runs.0 c (effect c a runs.0 runs.1) gone)
+  pub run_gone : (cs : List Call) (a now : Area) → Runs cs a now → Gone n (said a) → Gone n (said now)
+  run_gone [] a now runs gone = subst (λ (x : Area). Gone n (said x)) (sym runs) gone
+  run_gone (d ∷ cs) a now runs gone = run_gone cs runs.0 now runs.2 (gone_on n (effect d a runs.0 runs.1) gone)
+
+  -- a call that begins another one ends it
+  beginning_ends : (d : Call) (a a' : Area) → is_beginning d ≡ true → Does d a a' → Held n (said a) → Gone n (said a')
+  beginning_ends (take_up h (Ok c)) a a' so does held = begun_gone n a a' Take h c does held.number (omega (arith, held.serial))
+  beginning_ends (oust h (Ok c)) a a' so does held = begun_gone n a a' Oust h c does held.number (omega (arith, held.serial))
+  beginning_ends d a a' so does held = absurd (false≢true so)
 
   -- where another comparison began, it has ended
-  pub run_begun : (cs : List Call) (a a' : Area) → Runs cs a a' → Held n (said a) → some is_beginning cs ≡ true → Gone n (said a')
-  run_begun [] a a' runs held so = absurd (false≢true so)
-  run_begun (c ∷ cs) a a' runs held so =
+  pub run_begun : (cs : List Call) (a now : Area) → Runs cs a now → Held n (said a) → list_any is_beginning cs ≡ true → Gone n (said now)
+  run_begun [] a now runs held so = absurd (false≢true so)
+  run_begun (d ∷ cs) a now runs held so =
       ⊎_elim
-      (λ here. run_gone cs runs.0 a' runs.2 (beginning_ends n a runs.0 c here runs.1 held.number (omega (arith, held.serial))))
-      (λ later. ⊎_elim (λ on. run_begun cs runs.0 a' runs.2 on later) (λ gone. run_gone cs runs.0 a' runs.2 gone) (held_on n a runs.0 c (effect c a runs.0 runs.1) held))
-      (or_cases (is_beginning c) (some is_beginning cs) so)
+      (λ here. run_gone cs runs.0 now runs.2 (beginning_ends d a runs.0 here runs.1 held))
+      (λ later. ⊎_elim (λ on. run_begun cs runs.0 now runs.2 on later) (λ gone. run_gone cs runs.0 now runs.2 gone) (held_on n (effect d a runs.0 runs.1) held))
+      (or_cases (is_beginning d) (list_any is_beginning cs) so)
 
 -- a comparison that has begun holds the area
-pub started_held : (g : Handed) (n : Numbers) (a a' : Area) → Started g n a a' → Held n (said a')
-started_held g n a a' s =
-    let b = s.beginning.1 in
+pub started_held : {a : Area} (c : Comparison a) → Held c.claim (said c.begun)
+started_held c =
+    let s = started_so c in
+    let b = s.does.1 in
     record {
       number = ap (λ (x : Work). x.number) b.after ∙ sym b.number ∙ sym (ap (λ (m : Numbers). m.area) s.numbers);
       serial = ap (λ (x : Work). x.serial) b.after ∙ sym b.serial ∙ sym (ap (λ (m : Numbers). m.serial) s.numbers);

@@ -6,6 +6,7 @@ pub mod Histories
 pub mod Holders
 pub mod Marked
 pub mod Ousting
+pub mod Permits
 pub mod Tallies
 pub mod Transport
 pub mod Verdicts

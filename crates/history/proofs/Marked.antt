@@ -1,17 +1,15 @@
 -- The marked cases, shown. Assumes nothing.
-use Rattle.std.proofs.Common.{◌≡◌, ℕ, zero, suc, ◌+◌, ◌-◌, ◌<◌, ◌≤◌, Bool, true, false, cond, not, ◌&&◌, ltb, inl, inr, List, [], ◌∷◌, Some, None, Option, Ok, Err, Decides, sym, refl, ap, ◌∙◌, subst, ⊎_elim, lit<, arith}
-use Rattle.std.specs.List.{slice_get}
+use Rattle.std.proofs.Common.{◌≡◌, ℕ, zero, suc, ◌+◌, ◌-◌, ◌<◌, ◌≤◌, Bool, true, false, cond, not, ◌&&◌, ltb, inl, inr, List, [], ◌∷◌, Some, None, Ok, Err, Decides, sym, refl, ap, ◌∙◌, subst, ⊎_elim, lit<, arith}
 use Rattle.std.proofs.lemmas.Bool.{both_ways, cases_lt, cond-true, cond-false, le-ltb, lt-ltb, false≢true, and_left, and_right}
 use Rattle.std.proofs.lemmas.Bool.Decides.{nat_tests}
 use Rattle.std.proofs.lemmas.Option.{none-some, same_Some}
 use Rattle.codec.specs.Trees.{node, none, child}
-use Rattle.domain.specs.Kinds.{has_keyword}
+use Rattle.domain.specs.Kinds.{has_keyword, has_letter}
 use Rattle.domain.specs.declared.coverage.Range.{Range}
 use Rattle.domain.specs.Making.{coverage_of, at, Follows, Makes}
 use Rattle.domain.specs.Sets.{Smallest, alone}
 use Rattle.refusal.specs.declared.fault.Fault.TheVariants as fault
 use Rattle.refusal.specs.declared.fault.Refusal.{Refusal}
-use Rattle.refusal.specs.Faults.{number}
 use Rattle.schema.specs.Automata.{Automaton, allowed}
 use Rattle.schema.specs.Live.{Live, LiveSequence, LiveSymbol}
 use Rattle.schema.specs.Tables.{Tables}
@@ -28,10 +26,14 @@ use Rattle.compare.specs.declared.phase.Phase.TheVariants.{Running, Ready}
 use Rattle.compare.specs.declared.phase.Verdict.{Verdict}
 use Rattle.compare.specs.declared.phase.Verdict.TheVariants.{Included, Apart}
 use Rattle.compare.specs.Breaking.{Broken, Unbroken}
-use Rattle.compare.specs.Stepping.{next_pair, with_found, with_nexts, examined_to, going_on, Turn, Turns, Stepped, Examines, is_running}
+use Rattle.compare.specs.declared.step.TheConstants.{MOST_STEPS}
+use Rattle.compare.specs.Growing.{LastBroken}
+use Rattle.compare.specs.Stepping.{examined_to, Stepped, Examines, is_running}
 use Rattle.compare.specs.Work.{Work, start, begun}
+use Rattle.compare.proofs.Outcomes.{same_decision}
+use Rattle.compare.proofs.Turned.{one_stepped}
 use Rattle.document.specs.Samples.{LowerSequence, Sample}
-use Rattle.history.specs.Marked.{zero_alone, U, V, W, over_zero, ComesTo, HasDocument, letters, just_letters, from_to, MarkedCases}
+use Rattle.history.specs.Marked.{zero_alone, U, V, W, over_zero, Compares, ComesTo, DocumentBytes, just_letters, from_to, touching_ranges, parted_ranges, IsRefusal, MarkedCases}
 
 -- each of the three state's domains has 0 as its least value
 least_U : Smallest ((over_zero U).has 0) (Some 0)
@@ -97,184 +99,130 @@ empty_first P is = record { passes = is; least = least }
 sample_V : Sample (over_zero V) 0 (node 0 none)
 sample_V = (least_V, empty_first (LowerSequence (over_zero V) 0) (refl, tt), tt)
 
-pub v_u_document : HasDocument V U (0 ∷ 1 ∷ 0 ∷ 0 ∷ 0 ∷ [])
-v_u_document = (
-  node 0 (child 0 (node 0 none) none),
-  record { first = start; listed = refl; starts = (refl, refl); leads = refl; built = ((least_V, first_refused), ((0, refl, sample_V), tt)) },
-  refl,
-)
-
-u_w_document : HasDocument U W (0 ∷ 0 ∷ [])
-u_w_document = (
-  node 0 none,
-  record { first = start; listed = refl; starts = (refl, refl); leads = refl; built = ((least_U, empty_first (λ u. LiveSequence (over_zero U) 0 u × (allowed (over_zero W) 0 u ≡ false)) ((refl, tt), refl)), tt) },
-  refl,
-)
-
--- a running area is none that has its verdict
-not_ready : (p : Phase) (v : Verdict) → p ≡ Ready v → p ≡ Running → ⊥
-not_ready p v ready runs = false≢true (sym (ap is_running ready) ∙ ap is_running runs)
-
-module _ (A B : Automaton) (w : Work) where
-  -- an area with its verdict takes no turn
-  stays : (v : Verdict) → w.phase ≡ Ready v → (n : ℕ) (w' : Work) → Turns A B n w w' → w' ≡ w
-  stays v ready zero w' t = t
-  stays v ready (suc n) w' t =
-      let before = stays v ready n t.0 t.1 in
-      absurd (not_ready w.phase v ready (subst (λ (x : Work). x.phase ≡ Running) before t.2))
-
-  module _ (v : Verdict) (count : ℕ) (turn : (x : Work) → Turn A B w x → (x.phase ≡ Ready v) × (x.examined ≡ count)) where
-    -- a running area whose first turn brings the verdict takes no more than that
-    once : (n : ℕ) (w' : Work) → Turns A B (suc n) w w' → (w'.phase ≡ Ready v) × (w'.examined ≡ count)
-    once zero w' t = turn w' (subst (λ (x : Work). Turn A B x w') t.1 t.3)
-    once (suc n) w' t = let before = once n t.0 t.1 in absurd (not_ready t.0.phase v before.0 t.2)
-
-    -- and a step that may take one takes it
-    pub settles : (n : ℕ) (w' : Work) → w.phase ≡ Running → Stepped A B (suc n) w w' → (w'.phase ≡ Ready v) × (w'.examined ≡ count)
-    settles n w' runs s = by s.taken s.turns s.until
-      where
-        by : (k : ℕ) → Turns A B k w w' → (w'.phase ≡ Running → k ≡ suc n) → (w'.phase ≡ Ready v) × (w'.examined ≡ count)
-        by zero t until = absurd (omega (arith, until (ap {B = Phase} (λ (x : Work). x.phase) t ∙ runs)))
-        by (suc k) t until = once k w' t
-
--- the pair at the front of a list of one
-front : (pair : Listed) → slice_get (start ∷ []) 0 ≡ Some pair → start ≡ pair
-front pair at = same_Some _ _ at
-
--- what a comparison of two of the schemas has begun with, where the first is live
-module _ (S T : Tables) (w : Work) where
-  abbrev A : Automaton
-  A = over_zero S
-
-  abbrev B : Automaton
-  B = over_zero T
-
-  abbrev first_work : Work
-  first_work = begun w S T true
-
-  -- the first turn of a comparison whose pair (0, 0) is broken in content and not in value
-  breaks : Broken A B Content 0 0 → (Broken A B Value 0 0 → ⊥) → (x : Work) → Turn A B first_work x → (x.phase ≡ Ready (Apart Content)) × (x.examined ≡ 1)
-  breaks broken not_in_value x turn =
-      ⊎_elim
-      (λ none. absurd (none-some _ (sym none.0)))
-      (λ (e : Examines A B first_work x).
-      let same = front e.pair e.at in
-      ⊎_elim
-      (λ b. by b.0 (subst (λ (y : Listed). Broken A B b.0 y.first y.second) (sym same) b.1) b.2)
-      (λ u. absurd (both_ways (allowed B 0 broken.0) broken.2 ((subst (λ (y : Listed). Unbroken A B y.first y.second) (sym same) u.0).contents broken.0 broken.1)))
-      e.outcome)
-      turn
-    where
-      by : (k : Kind) → Broken A B k 0 0 → x ≡ record { number = w.number; serial = w.serial + 1; phase = Ready (Apart k); symbols = S.symbols; firsts = S.states; seconds = T.states; pairs = start ∷ []; examined = 1 } → (x.phase ≡ Ready (Apart Content)) × (x.examined ≡ 1)
-      by Value b is = absurd (not_in_value b)
-      by Content b is = (ap {B = Phase} (λ (y : Work). y.phase) is, ap {B = ℕ} (λ (y : Work). y.examined) is)
-
-  -- a state that leads nowhere lists no pair
-  module _ (leads : (a : ℕ) → A.next 0 a ≡ None) (live : ℕ → Bool) (es : List Listed) where
-    none_next : (a : ℕ) (l : Bool) (o : Option ℕ) → next_pair 0 a l None o ≡ None
-    none_next a true o = refl
-    none_next a false o = refl
-
-    lists_none : (n : ℕ) → with_nexts A B live 0 0 0 n es ≡ es
-    lists_none zero = refl
-    lists_none (suc a) =
-        ap (λ o. with_found (next_pair 0 a (live a) o (B.next 0 a)) (with_nexts A B live 0 0 0 a es)) (leads a)
-        ∙ ap (λ o. with_found o (with_nexts A B live 0 0 0 a es)) (none_next a (live a) (B.next 0 a)) ∙ lists_none a
-
-  -- the first turn of a comparison whose pair (0, 0) is unbroken, with a first state that leads nowhere
-  closes : Unbroken A B 0 0 → ((a : ℕ) → A.next 0 a ≡ None) → (x : Work) → Turn A B first_work x → (x.phase ≡ Ready Included) × (x.examined ≡ 1)
-  closes unbroken leads x turn =
-      ⊎_elim
-      (λ none. absurd (none-some _ (sym none.0)))
-      (λ (e : Examines A B first_work x).
-      let same = front e.pair e.at in
-      ⊎_elim
-      (λ b. absurd (whole b.0 (subst (λ (y : Listed). Broken A B b.0 y.first y.second) (sym same) b.1)))
-      (λ u. by u.1.0 e.pair same u.1.2)
-      e.outcome)
-      turn
-    where
-      whole : (k : Kind) → Broken A B k 0 0 → ⊥
-      whole Value b = both_ways (B.has 0 b.0) b.2 (unbroken.values b.0 b.1)
-      whole Content b = both_ways (allowed B 0 b.0) b.2 (unbroken.contents b.0 b.1)
-
-      by : (live : ℕ → Bool) (pair : Listed) → start ≡ pair → x ≡ examined_to first_work (with_nexts A B live pair.first pair.second 0 S.symbols (start ∷ [])) (going_on 1 (with_nexts A B live pair.first pair.second 0 S.symbols (start ∷ []))) → (x.phase ≡ Ready Included) × (x.examined ≡ 1)
-      by live pair same is =
-          let listed : with_nexts A B live pair.first pair.second 0 S.symbols (start ∷ []) ≡ start ∷ [] = sym (ap (λ (y : Listed). with_nexts A B live y.first y.second 0 S.symbols (start ∷ [])) same) ∙ lists_none leads live (start ∷ []) S.symbols in
-          (ap {B = Phase} (λ (y : Work). y.phase) is ∙ ap (going_on 1) listed, ap {B = ℕ} (λ (y : Work). y.examined) is)
-
--- U's state and V's have the same value, and V allows the empty sequence
-pub u_v_unbroken : Unbroken (over_zero U) (over_zero V) 0 0
-u_v_unbroken =
+pub v_u_document : DocumentBytes V U (0 ∷ 1 ∷ 0 ∷ 0 ∷ 0 ∷ [])
+v_u_document =
     record {
-      values = λ v h. h;
-      contents = λ w live. subst (λ x. allowed (over_zero V) 0 x ≡ true) (sym (just_empty w live)) refl;
+      tree = node 0 (child 0 (node 0 none) none);
+      document = record { first = start; listed = refl; starts = (refl, refl); leads = refl; built = ((least_V, first_refused), ((0, refl, sample_V), tt)) };
+      written = refl;
     }
 
--- no symbol is live at U's state
-pub dead_symbols : (a : ℕ) → Decides false (LiveSymbol (over_zero U) 0 a)
-dead_symbols a = (λ no. absurd (false≢true no), λ live. absurd (none-some _ (sym (nowhere a) ∙ (live_leads (over_zero U) 0 a live).1)))
+u_w_document : DocumentBytes U W (0 ∷ 0 ∷ [])
+u_w_document =
+    record {
+      tree = node 0 none;
+      document = record { first = start; listed = refl; starts = (refl, refl); leads = refl; built = ((least_U, empty_first (λ u. LiveSequence (over_zero U) 0 u × (allowed (over_zero W) 0 u ≡ false)) ((refl, tt), refl)), tt) };
+      written = refl;
+    }
 
--- what comes of a comparison whose first schema is live, from what its first turn brings, where it may take one
-settled : (S T : Tables) (v : Verdict) (count : ℕ) → Live (over_zero S) 0 → ((w : Work) → (x : Work) × Turn (over_zero S) (over_zero T) (begun w S T true) x) → ((w x : Work) → Turn (over_zero S) (over_zero T) (begun w S T true) x → (x.phase ≡ Ready v) × (x.examined ≡ count)) → ComesTo S T v count
-settled S T v count alive some turn w true d =
-    let x = some w in (
-      (x.0, record { taken = 1; few = omega arith; turns = (begun w S T true, refl, refl, x.1); until = λ runs. absurd (not_ready x.0.phase v (turn w x.0 x.1).0 runs) }),
-      λ w' s. settles (over_zero S) (over_zero T) (begun w S T true) v count (turn w) 4095 w' refl s,
-    )
-settled S T v count alive some turn w false d = absurd (false≢true (d.1 alive))
+-- a step of a running area whose first turn brings the verdict
+pub one_turn : (A B : Automaton) (w w' : Work) (v : Verdict) (n : ℕ) → w.phase ≡ Running → Examines A B w w' → w'.phase ≡ Ready v → 1 ≤ n → Stepped A B n w w'
+one_turn A B w w' v n runs examines ready some =
+    record {
+      taken = 1;
+      few = some;
+      turns = (w, refl, runs, inr examines);
+      until = λ still. absurd (false≢true (sym (ap is_running ready) ∙ ap is_running still));
+    }
 
--- a turn that finds (0, 0) broken in content
-turn_breaks : (S T : Tables) → Broken (over_zero S) (over_zero T) Content 0 0 → (w : Work) → (x : Work) × Turn (over_zero S) (over_zero T) (begun w S T true) x
-turn_breaks S T broken w = (examined_to (begun w S T true) (start ∷ []) (Ready (Apart Content)), inr (record { pair = start; at = refl; outcome = inl (Content, broken, refl) }))
+-- U's pair with V is unbroken, and no symbol is live at U's state
+pub u_v_examined : (w : Work) → Examines (over_zero U) (over_zero V) (begun w U V true) (examined_to (begun w U V true) (start ∷ []) (Ready Included))
+u_v_examined w = record { pair = start; at = refl; outcome = inr (unbroken, ((λ a. false), dead_symbols, refl)) }
+  where
+    unbroken : Unbroken (over_zero U) (over_zero V) 0 0
+    unbroken = record { values = λ v h. h; contents = λ w live. subst (λ x. allowed (over_zero V) 0 x ≡ true) (sym (just_empty w live)) refl }
 
--- and one that finds it unbroken, of U against V
-turn_closes : (w : Work) → (x : Work) × Turn (over_zero U) (over_zero V) (begun w U V true) x
-turn_closes w =
-    let es = with_nexts (over_zero U) (over_zero V) (λ a. false) 0 0 0 2 (start ∷ []) in
-    (examined_to (begun w U V true) es (going_on 1 es), inr (record { pair = start; at = refl; outcome = inr (u_v_unbroken, ((λ a. false), dead_symbols, refl)) }))
+    dead_symbols : (a : ℕ) → Decides false (LiveSymbol (over_zero U) 0 a)
+    dead_symbols a = (λ no. absurd (false≢true no), λ live. absurd (none-some _ (sym (nowhere a) ∙ (live_leads (over_zero U) 0 a live).1)))
+
+-- a pair (0, 0) that is broken in content
+pub broken_examined : (S T : Tables) (w : Work) → Broken (over_zero S) (over_zero T) Content 0 0 → Examines (over_zero S) (over_zero T) (begun w S T true) (examined_to (begun w S T true) (start ∷ []) (Ready (Apart Content)))
+broken_examined S T w broken = record { pair = start; at = refl; outcome = inl (Content, broken, refl) }
+
+pub v_u_broken : Broken (over_zero V) (over_zero U) Content 0 0
+v_u_broken = (0 ∷ [], one_child, refl)
+
+module _ (S T : Tables) where
+  -- one outcome of a comparison of the two, with no other kind in which the pair examined last is
+  -- broken
+  record Outcome (live : Bool) (v : Verdict) (n : ℕ) (w : Work) : Type 0 where
+    after : Work
+    stepped : Stepped (over_zero S) (over_zero T) MOST_STEPS (begun w S T live) after
+    verdict : after.phase ≡ Ready v
+    count : after.examined ≡ n
+    kind : (j k : Kind) → after.phase ≡ Ready (Apart j) → LastBroken (over_zero S) (over_zero T) after k → v ≡ Apart k
+
+  -- there is no other one
+  settled : (live : Bool) (v : Verdict) (n : ℕ) → Decides live (Live (over_zero S) 0) → ((w : Work) → Outcome live v n w) → ComesTo S T v n
+  settled live v n decides outcome =
+      record {
+        some = λ w. ((outcome w).after, record { live = live; decides = decides; stepped = (outcome w).stepped });
+        verdict = λ w w' c. (only w w' c).0;
+        count = λ w w' c. (only w w' c).1;
+      }
+    where
+      only : (w w' : Work) → Compares S T w w' → (w'.phase ≡ Ready v) × (w'.examined ≡ n)
+      only w w' c =
+          let o = outcome w in
+          let other : Stepped (over_zero S) (over_zero T) MOST_STEPS (begun w S T live) w' = subst (λ (b : Bool). Stepped (over_zero S) (over_zero T) MOST_STEPS (begun w S T b) w') (same_decision c.live live c.decides decides) c.stepped in
+          ⊎_elim
+          (λ same. (ap {B = Phase} (λ (x : Work). x.phase) same ∙ o.verdict, ap {B = ℕ} (λ (x : Work). x.examined) same ∙ o.count))
+          (λ kinds. (ap {B = Phase} (λ (x : Work). x.phase) kinds.3 ∙ ap Ready (sym (o.kind kinds.0 kinds.1 kinds.2 kinds.5)), ap {B = ℕ} (λ (x : Work). x.examined) kinds.3 ∙ o.count))
+          (one_stepped (over_zero S) (over_zero T) MOST_STEPS (begun w S T live) o.after w' o.stepped other)
+
+  -- the pair (0, 0) is broken in content alone
+  broken_once : Live (over_zero S) 0 → Broken (over_zero S) (over_zero T) Content 0 0 → ((v : ℕ) → (over_zero S).has 0 v ≡ true → (over_zero T).has 0 v ≡ true) → ComesTo S T (Apart Content) 1
+  broken_once alive broken values =
+      settled true (Apart Content) 1 (λ yes. alive, λ live. refl)
+      (λ w.
+      let after = examined_to (begun w S T true) (start ∷ []) (Ready (Apart Content)) in
+      record { after = after; stepped = one_turn (over_zero S) (over_zero T) (begun w S T true) after (Apart Content) MOST_STEPS refl (broken_examined S T w broken) refl (omega arith); verdict = refl; count = refl; kind = λ j k apart last. by k last.pair (same_Some _ _ last.at) last.broken })
+    where
+      by : (k : Kind) (pair : Listed) → start ≡ pair → Broken (over_zero S) (over_zero T) k pair.first pair.second → Apart Content ≡ Apart k
+      by Content pair same b = refl
+      by Value pair same b =
+          let here : Broken (over_zero S) (over_zero T) Value 0 0 = subst (λ (y : Listed). Broken (over_zero S) (over_zero T) Value y.first y.second) (sym same) b in
+          absurd (both_ways _ here.2 (values here.0 here.1))
+
+-- included is not apart
+not_apart : (j k : Kind) → Ready Included ≡ Ready (Apart j) → Included ≡ Apart k
+not_apart j k clash = cc
 
 u_v : ComesTo U V Included 1
-u_v = settled U V Included 1 alone_U turn_closes (λ w. closes U V w u_v_unbroken nowhere)
-
-v_u : ComesTo V U (Apart Content) 1
-v_u =
-    let broken : Broken (over_zero V) (over_zero U) Content 0 0 = (0 ∷ [], one_child, refl) in
-    settled V U (Apart Content) 1 alone_V (turn_breaks V U broken) (λ w. breaks V U w broken (λ b. both_ways _ b.2 b.1))
-
-u_w : ComesTo U W (Apart Content) 1
-u_w =
-    let broken : Broken (over_zero U) (over_zero W) Content 0 0 = ([], (refl, tt), refl) in
-    settled U W (Apart Content) 1 alone_U (turn_breaks U W broken) (λ w. breaks U W w broken (λ b. both_ways _ b.2 b.1))
+u_v =
+    settled U V true Included 1 (λ yes. alone_U, λ live. refl)
+    (λ w.
+    let after = examined_to (begun w U V true) (start ∷ []) (Ready Included) in
+    record { after = after; stepped = one_turn (over_zero U) (over_zero V) (begun w U V true) after Included MOST_STEPS refl (u_v_examined w) refl (omega arith); verdict = refl; count = refl; kind = λ j k apart last. not_apart j k apart })
 
 w_u : ComesTo W U Included 0
-w_u w true d = absurd (dead_W (d.0 refl))
-w_u w false d = (
-  (begun w W U false, record { taken = 0; few = omega arith; turns = refl; until = λ runs. absurd (not_ready (Ready Included) Included refl runs) }),
-  λ w' s.
-      let same = stays (over_zero W) (over_zero U) (begun w W U false) Included refl s.taken w' s.turns in
-      (ap {B = Phase} (λ (y : Work). y.phase) same, ap {B = ℕ} (λ (y : Work). y.examined) same),
-)
+w_u =
+    settled W U false Included 0 (λ no. absurd (false≢true no), λ live. absurd (dead_W live))
+    (λ w. record { after = begun w W U false; stepped = record { taken = 0; few = omega arith; turns = refl; until = λ still. absurd (false≢true (ap is_running still)) }; verdict = refl; count = refl; kind = λ j k apart last. not_apart j k apart })
+
+-- the code points of a range
+abbrev letters : Range → ℕ → Bool
+letters range = has_letter (coverage_of (range ∷ []))
 
 -- the gap of two joint domains with nothing on the left: that of the letters, on the right
-joint_gap : Smallest (alone (just_letters (from_to 65 90 ∷ [])) (just_letters (from_to 65 89 ∷ []))) (Some 2147483738)
+joint_gap : Smallest (alone (just_letters (from_to 65 90)) (just_letters (from_to 65 89))) (Some 2147483738)
 joint_gap = record { value = lit< tt; passes = refl; before = before }
   where
     -- below the middle nothing is in the first
-    left : (v : ℕ) → v < 2147483648 → just_letters (from_to 65 90 ∷ []) v ≡ false
+    left : (v : ℕ) → v < 2147483648 → just_letters (from_to 65 90) v ≡ false
     left v low = cond-true (ltb v 2147483648) _ _ (lt-ltb v 2147483648 low) ∙ and_right (ltb v 64) _ (bit_zero v)
 
     -- from there on, what is before the gap is in both or in none
-    right : (x : ℕ) → x < 90 → (letters (from_to 65 90 ∷ []) x && not (letters (from_to 65 89 ∷ []) x)) ≡ false
+    right : (x : ℕ) → x < 90 → (letters (from_to 65 90) x && not (letters (from_to 65 89) x)) ≡ false
     right x low = grind (arith, nat_tests)
 
-    before : (v : ℕ) → v < 2147483738 → alone (just_letters (from_to 65 90 ∷ [])) (just_letters (from_to 65 89 ∷ [])) v ≡ false
+    before : (v : ℕ) → v < 2147483738 → alone (just_letters (from_to 65 90)) (just_letters (from_to 65 89)) v ≡ false
     before v low =
         ⊎_elim
         (λ small. and_left _ _ (left v small))
         (λ large.
         let at = le-ltb v 2147483648 large in
-        ap (λ (t : Bool). cond t (has_keyword (record { bits = 0 }) v) (letters (from_to 65 90 ∷ []) (v - 2147483648)) && not (cond t (has_keyword (record { bits = 0 }) v) (letters (from_to 65 89 ∷ []) (v - 2147483648)))) at
+        ap (λ (t : Bool). cond t (has_keyword (record { bits = 0 }) v) (letters (from_to 65 90) (v - 2147483648)) && not (cond t (has_keyword (record { bits = 0 }) v) (letters (from_to 65 89) (v - 2147483648)))) at
         ∙ right (v - 2147483648) (omega (arith, low, large)))
         (cases_lt v 2147483648)
 
@@ -284,40 +232,32 @@ each_of_two test first second zero low = first
 each_of_two test first second (suc zero) low = second
 each_of_two test first second (suc (suc i)) low = absurd (omega (arith, low))
 
--- the ranges with nothing between
-abbrev touching : List Range
-touching = from_to 65 90 ∷ from_to 91 95 ∷ []
-
-touching_refused : (e : Refusal) × Makes touching (Err e) × (number e.fault ≡ 5) × (e.place ≡ 1)
-touching_refused = (record { fault = fault.Range; place = 1 }, inr (lit< tt, record { listed = lit< tt; before = before; broken = broken }, refl), refl, refl)
+touching_refused : (e : Refusal) × Makes touching_ranges (Err e) × IsRefusal 5 1 e
+touching_refused = (record { fault = fault.Range; place = 1 }, inr (lit< tt, record { listed = lit< tt; before = before; broken = broken }, refl), (refl, refl))
   where
-    before : Follows touching 1
+    before : Follows touching_ranges 1
     before =
         record {
-          ordered = λ i low. each_of_two (λ j. (at touching j).first ≤ (at touching j).last) (omega arith) (omega arith) i (omega (arith, low));
-          inside = λ i low. each_of_two (λ j. (at touching j).last ≤ 1114111) (omega arith) (omega arith) i (omega (arith, low));
+          ordered = λ i low. each_of_two (λ j. (at touching_ranges j).first ≤ (at touching_ranges j).last) (omega arith) (omega arith) i (omega (arith, low));
+          inside = λ i low. each_of_two (λ j. (at touching_ranges j).last ≤ 1114111) (omega arith) (omega arith) i (omega (arith, low));
           apart = λ i j earlier low. absurd (omega (arith, earlier, low));
         }
 
-    broken : Follows touching 2 → ⊥
+    broken : Follows touching_ranges 2 → ⊥
     broken f = absurd (omega (arith, f.apart 0 1 (lit< tt) (lit< tt)))
 
--- the ranges with a code point between
-abbrev parted : List Range
-parted = from_to 65 90 ∷ from_to 92 95 ∷ []
-
-parted_taken : Makes parted (Ok (coverage_of parted))
+parted_taken : Makes parted_ranges (Ok (coverage_of parted_ranges))
 parted_taken = record { few = omega arith; rule = rule; uses = refl; whole = refl }
   where
-    rule : Follows parted 2
+    rule : Follows parted_ranges 2
     rule =
         record {
-          ordered = each_of_two (λ j. (at parted j).first ≤ (at parted j).last) (omega arith) (omega arith);
-          inside = each_of_two (λ j. (at parted j).last ≤ 1114111) (omega arith) (omega arith);
+          ordered = each_of_two (λ j. (at parted_ranges j).first ≤ (at parted_ranges j).last) (omega arith) (omega arith);
+          inside = each_of_two (λ j. (at parted_ranges j).last ≤ 1114111) (omega arith) (omega arith);
           apart = λ i j earlier low. by i j earlier low;
         }
       where
-        by : (i j : ℕ) → i < j → j < 2 → (at parted i).last + 1 < (at parted j).first
+        by : (i j : ℕ) → i < j → j < 2 → (at parted_ranges i).last + 1 < (at parted_ranges j).first
         by zero zero earlier low = absurd (omega (arith, earlier))
         by zero (suc zero) earlier low = omega arith
         by zero (suc (suc j)) earlier low = absurd (omega (arith, low))
@@ -329,12 +269,12 @@ marked_cases =
       u_alone = refl;
       u_child = refl;
       u_v = u_v;
-      v_u = v_u;
+      v_u = broken_once V U alone_V v_u_broken (λ v h. h);
       w_u = w_u;
-      u_w = u_w;
+      u_w = broken_once U W alone_U ([], (refl, tt), refl) (λ v h. h);
       v_u_document = v_u_document;
       u_w_document = u_w_document;
-      no_number = (record { fault = fault.Number; place = 0 }, refl, refl, refl);
+      no_number = (record { fault = fault.Number; place = 0 }, refl, (refl, refl));
       joint_gap = joint_gap;
       touching = touching_refused;
       parted = parted_taken;

@@ -1,7 +1,8 @@
--- A comparison holds its area until it is given up, concluded included or ousted; and what is asked with its claim or numbers after another has
--- begun is turned away. Assumes nothing.
+-- A comparison holds its area until it is given up, concluded included or ousted; and what is asked
+-- with its claim or numbers after another has begun is turned away. Assumes nothing.
 use Rattle.std.proofs.Common.{◌≡◌, ℕ, true, false, ◌&&◌, eqb, List, [], ◌∷◌, Ok, Err, is_ok, Result, sym, ap, ◌∙◌, subst, ⊎_elim}
-use Rattle.std.proofs.lemmas.Bool.{and_from, and_parts, both_ways, cases_Bool, cond-true, eq-eqb, eqb-true, false≢true, not-true, not_from_false, or_parts}
+use Rattle.std.specs.List.{list_any}
+use Rattle.std.proofs.lemmas.Bool.{and_from, both_ways, cases_Bool, cond-true, eq-eqb, false≢true, or_parts}
 use Rattle.refusal.specs.declared.fault.Fault.{Fault}
 use Rattle.refusal.specs.declared.fault.Fault.TheVariants.{Foreign, Ousted}
 use Rattle.refusal.specs.declared.fault.Refusal.{Refusal}
@@ -14,44 +15,35 @@ use Rattle.compare.specs.Work.{Work, said, is_free}
 use Rattle.compare.proofs.Strangers.{step_of_stranger, conclusion_of_stranger, trail_of_stranger, giving_up_of_stranger}
 use Rattle.document.specs.Writing.{DocumentOfStranger}
 use Rattle.document.proofs.Outcomes.{document_of_stranger}
-use Rattle.history.specs.Calls.{Call, take_up, oust, step, conclude, trail, document, give_up, give_up_apart, Does, Runs, are, is_beginning, is_made_with, is_inclusion, is_giving_up, some, Comparison}
-use Rattle.history.specs.Law.{is_ousting, own_call, TurnedAway}
-use Rattle.history.proofs.Effects.{Holder, Effect, keeps, begins, steps, parts, ends, effect, started_so}
-use Rattle.history.proofs.Holders.{Held, Gone, are_these, gone_same, held_parts, held_steps, holders, not_holders, run_begun, started_held}
+use Rattle.history.specs.Calls.{Call, take_up, oust, step, conclude, trail, document, give_up, Does, Runs, are, is_made_with, some_own, is_inclusion, is_giving_up, is_ousting}
+use Rattle.history.specs.Comparisons.{Comparison, own_call, IsHolder, NeitherOustedNorGivenUp, AnotherBegan, OwnNow}
+use Rattle.history.specs.Law.{TurnedAway}
+use Rattle.history.proofs.Effects.{Effect, keeps, begins, steps, parts, ends, effect}
+use Rattle.history.proofs.Holders.{Gone, are_these, gone_same, held_part, held_step, holders, not_holders, run_begun, started_held}
+use Rattle.history.proofs.Permits.{Held, holder_held, held_holder}
 
 module _ (n : Numbers) where
-  -- its claim is the holder where it holds the area
-  is_held : (w : Work) → Held n w → is_holder w n ≡ true
-  is_held w held = and_from _ _ (eq-eqb n.area w.number (sym held.number)) (and_from _ _ (not_from_false _ held.busy) (eq-eqb n.serial w.serial (sym held.serial)))
-
-  -- and no claim with its numbers is, where it has ended
-  not_held : (w : Work) (m : Numbers) → Gone n w → are n m ≡ true → is_holder w m ≡ false
-  not_held w m gone its = ⊎_elim (λ yes. absurd (not_holders n w m gone (by yes) its)) (λ no. no) (cases_Bool (is_holder w m))
-    where
-      by : is_holder w m ≡ true → Holder w m
-      by so =
-          let near = and_parts (eqb m.area w.number) _ so in
-          let held = and_parts _ (eqb m.serial w.serial) near.1 in
-          record { area = eqb-true m.area w.number near.0; serial = eqb-true m.serial w.serial held.1; busy = not-true _ held.0 }
-
   -- neither ousted, given up nor concluded included, it holds the area on
-  held_through : (cs : List Call) (a now : Area) → Runs cs a now → Held n (said a) → some is_ousting cs ≡ false → some (λ d. is_made_with n d && is_giving_up d) cs ≡ false → some (λ d. is_made_with n d && is_inclusion d) cs ≡ false → Held n (said now)
+  held_through : (cs : List Call) (a now : Area) → Runs cs a now → Held n (said a) → list_any is_ousting cs ≡ false → some_own n is_giving_up cs ≡ false → some_own n is_inclusion cs ≡ false → Held n (said now)
   held_through [] a now runs held safe kept apart = subst (λ (x : Area). Held n (said x)) (sym runs) held
   held_through (d ∷ cs) a now runs held safe kept apart =
-      held_through cs runs.0 now runs.2 (by (effect d a runs.0 runs.1)) (or_parts (is_ousting d) _ safe).1 (or_parts _ (some (λ x. is_made_with n x && is_giving_up x) cs) kept).1 (or_parts _ (some (λ x. is_made_with n x && is_inclusion x) cs) apart).1
+      let unousted = or_parts (is_ousting d) (list_any is_ousting cs) safe in
+      let ungiven = or_parts (is_made_with n d && is_giving_up d) (some_own n is_giving_up cs) kept in
+      let unincluded = or_parts (is_made_with n d && is_inclusion d) (some_own n is_inclusion cs) apart in
+      held_through cs runs.0 now runs.2 (by unousted.0 ungiven.0 unincluded.0 (effect d a runs.0 runs.1)) unousted.1 ungiven.1 unincluded.1
     where
-      by : Effect d a runs.0 → Held n (said runs.0)
-      by (keeps left none) = subst (λ (x : Area). Held n (said x)) (sym left) held
-      by (begins h claim e begun made how) = absurd (⊎_elim (both_ways (is_ousting d) (or_parts (is_ousting d) _ safe).0) (both_ways (is_free a.phase) held.busy) how)
-      by (steps m h k slots answer is stepping) = held_steps n a runs.0 m h k slots answer stepping held
-      by (parts c k count claim is concluding) = held_parts n a runs.0 c k count claim concluding held
-      by (ends m h made which freed) =
-          let its : is_made_with n d ≡ true = made n ∙ holders n (said a) m held h in
-          absurd
-          (⊎_elim
-          (λ included. both_ways _ (or_parts _ (some (λ x. is_made_with n x && is_inclusion x) cs) apart).0 (and_from _ _ its included))
-          (λ gives. both_ways _ (or_parts _ (some (λ x. is_made_with n x && is_giving_up x) cs) kept).0 (and_from _ _ its gives))
-          which)
+      by : is_ousting d ≡ false → (is_made_with n d && is_giving_up d) ≡ false → (is_made_with n d && is_inclusion d) ≡ false → Effect d a runs.0 → Held n (said runs.0)
+      by unousted ungiven unincluded (keeps k) = subst (λ (x : Area). Held n (said x)) (sym k.same) held
+      by unousted ungiven unincluded (begins b) = absurd (⊎_elim (both_ways (is_ousting d) unousted) (both_ways (is_free a.phase) held.busy) b.how)
+      by unousted ungiven unincluded (steps s) = held_step n s held
+      by unousted ungiven unincluded (parts p) = held_part n p held
+      by unousted ungiven unincluded (ends e) =
+          let its : is_made_with n d ≡ true = e.made n ∙ holders n (said a) e.numbers held e.holder in
+          absurd (⊎_elim (λ included. both_ways _ unincluded (and_from _ _ its included)) (λ gives. both_ways _ ungiven (and_from _ _ its gives)) e.which)
+
+  -- no claim with its numbers is the holder, where it has ended
+  not_held : (w : Work) (m : Numbers) → Gone n w → are n m ≡ true → is_holder w m ≡ false
+  not_held w m gone its = ⊎_elim (λ yes. absurd (not_holders n w m gone (holder_held w m yes) its)) (λ no. no) (cases_Bool (is_holder w m))
 
   -- what is accepted is not refused
   accepted : {X E : Type 0} (x : X) (e : E) → ◌≡◌ {A = Result X E} (Ok x) (Err e) → ⊥
@@ -61,14 +53,11 @@ module _ (n : Numbers) where
   says_ousted : (w : Work) (m : Numbers) → w.number ≡ n.area → are n m ≡ true → (stranger w m).fault ≡ Ousted
   says_ousted w m near its = cond-true (eqb m.area w.number) Ousted Foreign (eq-eqb m.area w.number ((are_these n m its).0 ∙ sym near))
 
-  fault_of : {X S : Type 0} (e : Refusal × Lease S) (f : Refusal) (c : Lease S) → ◌≡◌ {A = Result X (Refusal × Lease S)} (Err e) (Err (f, c)) → e.0.fault ≡ f.fault
-  fault_of e f c is = let same : e ≡ (f, c) = cc in ap {B = Fault} (λ (x : Refusal × Lease _). x.0.fault) same
-
-  gives_none : {S : Type 0} (c : Lease S) (a a' : Area) (r : Result ℕ (Refusal × Lease S)) → GivingUp a c r a' → Gone n (said a) → are n c.numbers ≡ true → r ≡ Ok 0
+  gives_none : (m : Numbers) (a a' : Area) (r : Result ℕ Refusal) → GivingUp a m r a' → Gone n (said a) → are n m ≡ true → r ≡ Ok 0
   unfolding GivingUpOfStranger
-  gives_none {S} c a a' r does gone its =
-      (giving_up_of_stranger S a c r a' does (not_held (said a) c.numbers gone its)).0
-      ∙ cond-true (eqb c.numbers.area a.number) (Ok 0) _ (eq-eqb c.numbers.area a.number ((are_these n c.numbers its).0 ∙ sym gone.number))
+  gives_none m a a' r does gone its =
+      (giving_up_of_stranger a m r a' does (not_held (said a) m gone its)).0
+      ∙ cond-true (eqb m.area a.number) (Ok 0) _ (eq-eqb m.area a.number ((are_these n m its).0 ∙ sym gone.number))
 
   turned_away : (d : Call) (a a' : Area) → Does d a a' → Gone n (said a) → is_made_with n d ≡ true → TurnedAway d
   unfolding StepOfStranger ConclusionOfStranger TrailOfStranger DocumentOfStranger
@@ -80,25 +69,31 @@ module _ (n : Numbers) where
   turned_away (step m h k slots (Err e)) a a' does gone its = tt
   turned_away (conclude c (Ok v)) a a' does gone its = accepted v _ (conclusion_of_stranger a c (Ok v) a' does (not_held (said a) c.numbers gone its)).0
   turned_away (conclude c (Err e)) a a' does gone its =
-      fault_of e (stranger (said a) c.numbers) c (conclusion_of_stranger a c (Err e) a' does (not_held (said a) c.numbers gone its)).0 ∙ says_ousted (said a) c.numbers gone.number its
-  turned_away (trail c o (Ok r) o') a a' does gone its = accepted r _ (trail_of_stranger a c o (Ok r) o' does.0 (not_held (said a) c.numbers gone its)).0
-  turned_away (trail c o (Err e) o') a a' does gone its =
-      let t = trail_of_stranger a c o (Err e) o' does.0 (not_held (said a) c.numbers gone its) in
-      (fault_of e (stranger (said a) c.numbers) c t.0 ∙ says_ousted (said a) c.numbers gone.number its, t.1)
+      let same = (conclusion_of_stranger a c (Err e) a' does (not_held (said a) c.numbers gone its)).0 in
+      let first : e ≡ (stranger (said a) c.numbers, c) = cc in
+      ap {B = Fault} (λ (x : Refusal × Lease _). x.0.fault) first ∙ says_ousted (said a) c.numbers gone.number its
+  turned_away (trail m o (Ok size) o') a a' does gone its = accepted size _ (trail_of_stranger a m o (Ok size) o' does.0 (not_held (said a) m gone its)).0
+  turned_away (trail m o (Err e) o') a a' does gone its =
+      let t = trail_of_stranger a m o (Err e) o' does.0 (not_held (said a) m gone its) in
+      let first : e ≡ stranger (said a) m = let same = t.0 in cc in
+      (ap {B = Fault} (λ (x : Refusal). x.fault) first ∙ says_ousted (said a) m gone.number its, t.1)
   turned_away (document m h slots levels o (Ok size) o') a a' does gone its =
       let s = document_of_stranger h.first h.second h.first_sets h.second_sets m slots levels a o (Ok size) o' does.0 (not_held (said a) m gone its) in
       accepted size s.0 s.1
   turned_away (document m h slots levels o (Err e) o') a a' does gone its =
       (document_of_stranger h.first h.second h.first_sets h.second_sets m slots levels a o (Err e) o' does.0 (not_held (said a) m gone its)).3
-  turned_away (give_up c (Ok k)) a a' does gone its = let same = gives_none c a a' (Ok k) does gone its in cc
-  turned_away (give_up c (Err e)) a a' does gone its = accepted 0 e (sym (gives_none c a a' (Err e) does gone its))
-  turned_away (give_up_apart c (Ok k)) a a' does gone its = let same = gives_none c a a' (Ok k) does gone its in cc
-  turned_away (give_up_apart c (Err e)) a a' does gone its = accepted 0 e (sym (gives_none c a a' (Err e) does gone its))
+  turned_away (give_up m (Ok k)) a a' does gone its = let same = gives_none m a a' (Ok k) does gone its in cc
+  turned_away (give_up m (Err e)) a a' does gone its = accepted 0 e (sym (gives_none m a a' (Err e) does gone its))
 
-pub holds : (a : Area) (c : Comparison a) → some is_ousting c.since ≡ false → own_call c is_giving_up ≡ false → own_call c is_inclusion ≡ false → is_holder (said c.now) c.claim ≡ true
-holds a c safe kept apart = is_held c.claim (said c.now) (held_through c.claim c.since c.begun c.now c.goes_on (started_held c.schemas c.claim c.at c.begun (started_so c)) safe kept apart)
+pub holds : (a : Area) (c : Comparison a) → NeitherOustedNorGivenUp c → own_call c is_inclusion ≡ false → IsHolder c
+holds a c on apart = held_holder (said c.now) c.claim (held_through c.claim c.since c.begun c.now c.goes_on (started_held c) on.unousted on.kept apart)
 
-pub ousted : (a : Area) (c : Comparison a) → some is_beginning c.since ≡ true → (d : Call) → is_made_with c.claim d ≡ true → (a' : Area) → Does d c.now a' → TurnedAway d × (a' ≡ c.now)
-ousted a c so d its a' does =
-    let gone = run_begun c.claim c.since c.begun c.now c.goes_on (started_held c.schemas c.claim c.at c.begun (started_so c)) so in
-    (turned_away c.claim d c.now a' does gone its, gone_same c.claim c.now a' d (effect d c.now a' does) gone its)
+-- where another comparison has begun, it has ended
+now_gone : {a : Area} (c : Comparison a) → AnotherBegan c → Gone c.claim (said c.now)
+now_gone c so = run_begun c.claim c.since c.begun c.now c.goes_on (started_held c) so
+
+pub ousted : (a : Area) (c : Comparison a) → AnotherBegan c → (d : Call) (a' : Area) → OwnNow c d a' → TurnedAway d
+ousted a c so d a' asked = turned_away c.claim d c.now a' asked.does (now_gone c so) asked.own
+
+pub unchanged : (a : Area) (c : Comparison a) → AnotherBegan c → (d : Call) (a' : Area) → OwnNow c d a' → a' ≡ c.now
+unchanged a c so d a' asked = gone_same c.claim (effect d c.now a' asked.does) (now_gone c so) asked.own

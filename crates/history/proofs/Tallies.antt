@@ -1,23 +1,22 @@
--- What a conclusion tells: as many pairs as the comparison's own steps have told. Assumes nothing.
-use Rattle.std.proofs.Common.{◌≡◌, ℕ, zero, suc, ◌+◌, ◌≤◌, true, ◌⊎◌, List, [], ◌∷◌, Ok, sym, refl, ap, ◌∙◌, subst, inl, inr, ⊎_elim, arith}
+-- What a conclusion counts: as many pairs as the comparison's own steps have told. Assumes nothing.
+use Rattle.std.proofs.Common.{◌≡◌, ℕ, zero, suc, ◌+◌, ◌≤◌, true, List, [], ◌∷◌, Ok, sym, ap, subst, inl, ⊎_elim, arith}
 use Rattle.std.proofs.lemmas.Bool.{cond-true}
 use Rattle.schema.specs.Automata.{Automaton}
-use Rattle.schema.specs.Tables.{automaton}
 use Rattle.compare.specs.declared.area.Area.{Area}
 use Rattle.compare.specs.declared.claim.Comparing.{Comparing}
 use Rattle.compare.specs.declared.claim.Lease.{Lease}
 use Rattle.compare.specs.declared.claim.Numbers.{Numbers}
 use Rattle.compare.specs.declared.conclude.Concluded.{Concluded}
 use Rattle.compare.specs.declared.conclude.Concluded.TheVariants as concluded
-use Rattle.compare.specs.declared.event.Event.TheVariants.{Step, Conclude}
 use Rattle.compare.specs.Concluding.{Conclusion}
-use Rattle.compare.specs.Stepping.{Turn, Turns, Stepping}
+use Rattle.compare.specs.Stepping.{Turn, Turns}
 use Rattle.compare.specs.Work.{Work, said}
-use Rattle.history.specs.Calls.{Handed, Call, step, Does, Runs, are, Comparison}
-use Rattle.history.specs.Law.{told_by, told, count_of}
-use Rattle.history.proofs.Effects.{permitted, steps_permitted, Effect, keeps, begins, steps, parts, ends, effect, started_so}
-use Rattle.history.proofs.Holders.{Held, Gone, holders, not_holders, held_steps, held_parts, begun_ends, end_ends, gone_on, started_held}
-use Rattle.history.proofs.Verdicts.{these}
+use Rattle.history.specs.Calls.{first_automaton, second_automaton, Call, Runs, are, told_by, told}
+use Rattle.history.specs.Comparisons.{Comparison, ConcludesNow}
+use Rattle.history.specs.Law.{count_of}
+use Rattle.history.proofs.Effects.{Effect, Keeps, Steps, Parts, effect, step_turns, part_left, started_so}
+use Rattle.history.proofs.Holders.{Standing, stands_now, stands_on, started_held}
+use Rattle.history.proofs.Verdicts.{concluder}
 
 module _ (A B : Automaton) where
   -- a turn examines one pair, or none
@@ -35,50 +34,38 @@ module _ (A B : Automaton) where
 module _ (n : Numbers) where
   -- it holds the area, with so many pairs examined; or it has ended
   abbrev Tally : ℕ → Area → Type 0
-  Tally e a = (Held n (said a) × (a.examined ≡ e)) ⊎ Gone n (said a)
+  Tally k = Standing n (λ a. a.examined ≡ k)
 
-  module _ (d : Call) (a a' : Area) (e : ℕ) (held : Held n (said a)) (so : a.examined ≡ e) where
-    -- a step of its own examines as many as it tells
-    step_tallied : (m : Numbers) (h : Handed) (k slots : ℕ) (answer : ℕ × ℕ) → d ≡ step m h k slots (Ok answer) → Stepping h.first h.second h.first_sets h.second_sets m k slots a (Ok answer) a' → Tally (e + told_by n d) a'
-    step_tallied m h k slots answer is stepping =
-        let its : are n m ≡ true = holders n (said a) m held (permitted (said a) m Step (steps_permitted (said a) m h.first h.second k slots stepping.0)).0 in
-        let tells : told_by n d ≡ answer.0 = ap (told_by n) is ∙ cond-true (are n m) answer.0 0 its in
-        let s = stepping.1 in
-        let more = turns_more (automaton h.first h.first_sets) (automaton h.second h.second_sets) s.stepped.taken (said a) (said a') s.stepped.turns in
-        inl (held_steps n a a' m h k slots answer stepping held, omega (arith, so, tells, s.count, more))
-
-    -- and no other call examines any
-    other_tallied : told_by n d ≡ 0 → Effect d a a' → Tally (e + told_by n d) a'
-    other_tallied none (keeps left ungranted) = inl (subst (λ (x : Area). Held n (said x)) (sym left) held, omega (arith, none, so, ap (λ (x : Area). x.examined) left))
-    other_tallied none (begins h claim event begun made how) = inr (begun_ends n a a' event h claim begun held)
-    other_tallied none (steps m h k slots answer is stepping) = step_tallied m h k slots answer is stepping
-    other_tallied none (parts c k count claim is concluding) = inl (held_parts n a a' c k count claim concluding held, omega (arith, none, so, ap (λ (x : Work). x.examined) concluding.1.4))
-    other_tallied none (ends m h made which freed) = inr (end_ends n a a' freed held)
-
-  tallied : (d : Call) (a a' : Area) (e : ℕ) → Does d a a' → Held n (said a) → a.examined ≡ e → Tally (e + told_by n d) a'
-  tallied (step m h k slots (Ok answer)) a a' e does held so = step_tallied (step m h k slots (Ok answer)) a a' e held so m h k slots answer refl does
-  tallied d a a' e does held so = other_tallied d a a' e held so refl (effect d a a' does)
-
-  run_tallied : (cs : List Call) (a now : Area) (e : ℕ) → Runs cs a now → Tally e a → Tally (e + told n cs) now
-  run_tallied [] a now e runs tally = let none : e ≡ e + 0 = omega arith in subst (λ (k : ℕ). Tally k now) none (subst (Tally e) (sym runs) tally)
-  run_tallied (d ∷ cs) a now e runs tally =
-      let all : (e + told_by n d) + told n cs ≡ e + (told_by n d + told n cs) = omega arith in
-      subst (λ (k : ℕ). Tally k now) all (run_tallied cs runs.0 now (e + told_by n d) runs.2 (by tally))
+  -- a step of its own examines as many as it tells, and no other call examines any
+  tallied : (k : ℕ) (d : Call) (a a' : Area) → Effect d a a' → Tally k a → Tally (k + told_by n d) a'
+  tallied k d a a' e = stands_on n (λ x. x.examined ≡ k) (λ x. x.examined ≡ k + told_by n d) kept stepped parted e
     where
-      by : Tally e a → Tally (e + told_by n d) runs.0
-      by (inl here) = tallied d a runs.0 e runs.1 here.0 here.1
-      by (inr gone) = inr (gone_on n a runs.0 d (effect d a runs.0 runs.1) gone)
+      kept : Keeps d a a' → a.examined ≡ k → a'.examined ≡ k + told_by n d
+      kept e so = omega (arith, so, e.tells n, ap (λ (x : Area). x.examined) e.same)
 
--- a conclusion tells how many pairs are examined
-tells_examined : (a a' : Area) (claim : Lease Comparing) (v : Concluded) → Conclusion a claim (Ok v) a' → count_of v ≡ a.examined
-tells_examined a a' claim (concluded.Included n) does = does.1.1
-tells_examined a a' claim (concluded.Apart k n apart) does = does.1.1
+      stepped : (s : Steps d a a') → are n s.numbers ≡ true → a.examined ≡ k → a'.examined ≡ k + told_by n d
+      stepped s its so =
+          let tells : told_by n d ≡ s.answer.0 = subst (λ (x : Call). told_by n x ≡ s.answer.0) (sym s.is) (cond-true (are n s.numbers) s.answer.0 0 its) in
+          let more = turns_more (first_automaton s.handed) (second_automaton s.handed) s.does.1.stepped.taken (said a) (said a') (step_turns s) in
+          omega (arith, so, tells, s.does.1.count, more)
 
-pub counted : (a : Area) (c : Comparison a) → (claim : Lease Comparing) → claim.numbers ≡ c.claim → (v : Concluded) (a' : Area) → Conclusion c.now claim (Ok v) a' → count_of v ≡ told c.claim c.since
-counted a c claim same v a' does =
-    let s = started_so c in
-    let start : c.begun.examined ≡ 0 = ap (λ (x : Work). x.examined) s.beginning.1.after in
-    ⊎_elim
-    (λ here. omega (arith, tells_examined c.now a' claim v does, here.1))
-    (λ gone. absurd (not_holders c.claim (said c.now) claim.numbers gone (permitted (said c.now) claim.numbers Conclude does.0).0 (these c.claim claim.numbers same)))
-    (run_tallied c.claim c.since c.begun c.now 0 c.goes_on (inl (started_held c.schemas c.claim c.at c.begun s, start)))
+      parted : Parts d a a' → a.examined ≡ k → a'.examined ≡ k + told_by n d
+      parted p so = omega (arith, so, ap (told_by n) p.is, ap (λ (x : Work). x.examined) (part_left p))
+
+  run_tallied : (cs : List Call) (a now : Area) (k : ℕ) → Runs cs a now → Tally k a → Tally (k + told n cs) now
+  run_tallied [] a now k runs tally = let none : k ≡ k + 0 = omega arith in subst (λ (i : ℕ). Tally i now) none (subst (Tally k) (sym runs) tally)
+  run_tallied (d ∷ cs) a now k runs tally =
+      let all : (k + told_by n d) + told n cs ≡ k + (told_by n d + told n cs) = omega arith in
+      subst (λ (i : ℕ). Tally i now) all (run_tallied cs runs.0 now (k + told_by n d) runs.2 (tallied k d a runs.0 (effect d a runs.0 runs.1) tally))
+
+-- a conclusion counts how many pairs are examined
+counts_examined : (a a' : Area) (claim : Lease Comparing) (v : Concluded) → Conclusion a claim (Ok v) a' → count_of v ≡ a.examined
+counts_examined a a' claim (concluded.Included n) does = does.1.1
+counts_examined a a' claim (concluded.Apart k n apart) does = does.1.1
+
+pub counted : (a : Area) (c : Comparison a) → (v : Concluded) → ConcludesNow c v → count_of v ≡ told c.claim c.since
+counted a c v asked =
+    let start : c.begun.examined ≡ 0 = ap (λ (x : Work). x.examined) (started_so c).does.1.after in
+    let tally = run_tallied c.claim c.since c.begun c.now 0 c.goes_on (inl (started_held c, start)) in
+    let so = stands_now c.claim (λ a. a.examined ≡ 0 + told c.claim c.since) c.now tally (concluder c v asked) in
+    omega (arith, counts_examined c.now asked.after asked.claim v asked.does, so)

@@ -3,7 +3,7 @@ use Rattle.std.proofs.Common.{◌≡◌, ℕ, ◌^◌, ◌<◌, Bool, true, fals
 use Rattle.std.proofs.lemmas.Bool.{ltb-true}
 use Rattle.schema.specs.Tables.{Tables, automaton, domain_number}
 use Rattle.compare.proofs.Grown.{same_automata}
-use Rattle.history.specs.Calls.{Handed, first_of, second_of, SameSets, Same}
+use Rattle.history.specs.Calls.{Handed, first_automaton, second_automaton, SameSets, Same}
 
 -- the same set is found at each place
 same_set : (ss ts : List (ℕ → Bool)) → SameSets ss ts → (i v : ℕ) → v < 2 ^ 32 → get_or ss i (λ _. false) v ≡ get_or ts i (λ _. false) v
@@ -23,8 +23,8 @@ same_values T ss ts same =
     by q v true low = same_set ss ts same (domain_number T q) v (ltb-true v (2 ^ 32) low)
     by q v false low = refl
 
-pub same_first : (h g : Handed) → Same h g → first_of h ≡ first_of g
+pub same_first : (h g : Handed) → Same h g → first_automaton h ≡ first_automaton g
 same_first h g same = ap (λ (T : Tables). automaton T h.first_sets) same.first ∙ same_values g.first h.first_sets g.first_sets same.first_sets
 
-pub same_second : (h g : Handed) → Same h g → second_of h ≡ second_of g
+pub same_second : (h g : Handed) → Same h g → second_automaton h ≡ second_automaton g
 same_second h g same = ap (λ (T : Tables). automaton T h.second_sets) same.second ∙ same_values g.second h.second_sets g.second_sets same.second_sets

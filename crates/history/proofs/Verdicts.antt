@@ -1,7 +1,7 @@
 -- The verdict of a comparison whose steps were handed its schemas is right. Assumes nothing.
-use Rattle.std.proofs.Common.{◌≡◌, ℕ, ◌-◌, true, eqb, ◌⊎◌, List, [], ◌∷◌, Ok, sym, refl, ap, subst, inl, inr, ⊎_elim}
+use Rattle.std.proofs.Common.{◌≡◌, ℕ, ◌-◌, true, List, [], ◌∷◌, Ok, sym, refl, subst, inl}
 use Rattle.std.specs.List.{AllByRecursion}
-use Rattle.std.proofs.lemmas.Bool.{and_from, and_parts, both_ways, eq-eqb, eqb-true, false≢true, not-true}
+use Rattle.std.proofs.lemmas.Bool.{both_ways, false≢true}
 use Rattle.schema.specs.Automata.{Automaton}
 use Rattle.compare.specs.declared.area.Area.{Area}
 use Rattle.compare.specs.declared.claim.Apart as parted
@@ -10,59 +10,81 @@ use Rattle.compare.specs.declared.claim.Lease.{Lease}
 use Rattle.compare.specs.declared.claim.Numbers.{Numbers}
 use Rattle.compare.specs.declared.conclude.Concluded.{Concluded}
 use Rattle.compare.specs.declared.conclude.Concluded.TheVariants.{Included, Apart}
-use Rattle.compare.specs.declared.event.Event.TheVariants.{Step, Conclude}
+use Rattle.compare.specs.declared.event.Event.TheVariants.{Conclude}
 use Rattle.compare.specs.declared.phase.Kind.{Kind}
 use Rattle.compare.specs.declared.phase.Phase.TheVariants as phase
 use Rattle.compare.specs.declared.phase.Verdict.TheVariants as verdict
 use Rattle.compare.specs.Breaking.{ToldApart}
 use Rattle.compare.specs.Concluding.{Conclusion}
 use Rattle.compare.specs.Growing.{LastBroken, Stands, Grown, BeginsGrown, StepsGrown, ConcludesGrown, IncludedCarries, ApartTells}
-use Rattle.compare.specs.Stepping.{Stepping}
-use Rattle.compare.specs.Work.{Work, said, held_by}
+use Rattle.compare.specs.Strangers.{is_holder}
+use Rattle.compare.specs.Work.{Work, said}
 use Rattle.compare.proofs.Grown.{begins_grown, steps_grown, concludes_grown, included_carries, apart_tells}
-use Rattle.history.specs.Calls.{Handed, first_of, second_of, Same, Call, Runs, are, StepsOver, Comparison}
-use Rattle.history.specs.Law.{Inclusion, ReachesBroken, Right, StepsOverItsOwn}
-use Rattle.history.proofs.Effects.{permitted, steps_permitted, Effect, keeps, begins, steps, parts, ends, effect, Started, started_so}
-use Rattle.history.proofs.Holders.{Held, Gone, holders, not_holders, held_steps, held_parts, begun_ends, end_ends, gone_on, started_held}
+use Rattle.history.specs.Calls.{Handed, first_automaton, second_automaton, Same, Call, Runs, are, StepsOver}
+use Rattle.history.specs.Comparisons.{Comparison, StepsOverItsOwn, IsHolder, ConcludesNow}
+use Rattle.history.specs.Law.{Inclusion, ReachesBroken, Right}
+use Rattle.history.proofs.Effects.{Effect, Keeps, Steps, Parts, effect, started_so}
+use Rattle.history.proofs.Holders.{Standing, stands_now, stands_on, started_held}
+use Rattle.history.proofs.Permits.{claim_permitted, held_holder}
 use Rattle.history.proofs.Transport.{same_first, same_second}
 
-module _ (g : Handed) (n : Numbers) where
-  -- it holds the area, which has come as far as a comparison of its automata does; or it has ended
-  abbrev pub Known : Area → Type 0
-  Known a = (Held n (said a) × Grown (first_of g) (second_of g) (said a)) ⊎ Gone n (said a)
+-- the area has come as far as a comparison of these schemas does
+abbrev pub GrownFor : Handed → Area → Type 0
+GrownFor g a = Grown (first_automaton g) (second_automaton g) (said a)
 
-  -- a step of the same schemas
-  steps_known : (m : Numbers) (h : Handed) (k slots : ℕ) (answer : ℕ × ℕ) (a a' : Area) → Same g h → Stepping h.first h.second h.first_sets h.second_sets m k slots a (Ok answer) a' → Grown (first_of g) (second_of g) (said a) → Grown (first_of g) (second_of g) (said a')
-  unfolding StepsGrown
-  steps_known m h k slots answer a a' same stepping grown =
-      let first = same_first g h same in
-      let second = same_second g h same in
-      let theirs : Grown (first_of h) (second_of h) (said a) = subst (λ (X : Automaton). Grown X (second_of h) (said a)) first (subst (λ (Y : Automaton). Grown (first_of g) Y (said a)) second grown) in
-      let after = steps_grown h.first h.second h.first_sets h.second_sets m k slots a answer a' stepping theirs in
-      subst (λ (X : Automaton). Grown X (second_of g) (said a')) (sym first) (subst (λ (Y : Automaton). Grown (first_of h) Y (said a')) (sym second) after)
+-- so it has for the same schemas
+pub grown_same : (g h : Handed) (a : Area) → Same g h → GrownFor g a → GrownFor h a
+grown_same g h a same grown =
+    subst (λ (X : Automaton). Grown X (second_automaton h) (said a)) (same_first g h same) (subst (λ (Y : Automaton). Grown (first_automaton g) Y (said a)) (same_second g h same) grown)
+
+grown_back : (g h : Handed) (a : Area) → Same g h → GrownFor h a → GrownFor g a
+grown_back g h a same grown =
+    subst (λ (X : Automaton). Grown X (second_automaton g) (said a)) (sym (same_first g h same)) (subst (λ (Y : Automaton). Grown (first_automaton h) Y (said a)) (sym (same_second g h same)) grown)
+
+module _ (g : Handed) (n : Numbers) where
+  -- it holds the area, which has come as far as a comparison of its schemas does; or it has ended
+  abbrev pub Known : Area → Type 0
+  Known = Standing n (GrownFor g)
 
   -- what each call keeps
   pub known_on : (d : Call) (a a' : Area) → StepsOver n g d → Effect d a a' → Known a → Known a'
-  unfolding ConcludesGrown
-  known_on d a a' over e (inr gone) = inr (gone_on n a a' d e gone)
-  known_on d a a' over (keeps left none) (inl known) = subst Known (sym left) (inl known)
-  known_on d a a' over (steps m h k slots answer is stepping) (inl known) =
-      let its : are n m ≡ true = holders n (said a) m known.0 (permitted (said a) m Step (steps_permitted (said a) m h.first h.second k slots stepping.0)).0 in
-      let same : Same g h = subst (StepsOver n g) is over its in
-      inl (held_steps n a a' m h k slots answer stepping known.0, steps_known m h k slots answer a a' same stepping known.1)
-  known_on d a a' over (parts c k count claim is concluding) (inl known) =
-      inl (held_parts n a a' c k count claim concluding known.0, concludes_grown (first_of g) (second_of g) a c k count claim a' concluding known.1)
-  known_on d a a' over (begins h claim e begun made how) (inl known) = inr (begun_ends n a a' e h claim begun known.0)
-  known_on d a a' over (ends m h made which free) (inl known) = inr (end_ends n a a' free known.0)
+  unfolding StepsGrown ConcludesGrown
+  known_on d a a' over e = stands_on n (GrownFor g) (GrownFor g) kept stepped parted e
+    where
+      kept : Keeps d a a' → GrownFor g a → GrownFor g a'
+      kept k grown = subst (GrownFor g) (sym k.same) grown
 
-  pub run_known : (cs : List Call) (a a' : Area) → Runs cs a a' → AllByRecursion (StepsOver n g) cs → Known a → Known a'
-  run_known [] a a' runs over known = subst Known (sym runs) known
-  run_known (c ∷ cs) a a' runs over known = run_known cs runs.0 a' runs.2 over.1 (known_on c a runs.0 over.0 (effect c a runs.0 runs.1) known)
+      stepped : (s : Steps d a a') → are n s.numbers ≡ true → GrownFor g a → GrownFor g a'
+      stepped s its grown =
+          let h = s.handed in
+          let same : Same g h = subst (StepsOver n g) s.is over its in
+          grown_back g h a' same (steps_grown h.first h.second h.first_sets h.second_sets s.numbers s.asked s.slots a s.answer a' s.does (grown_same g h a same grown))
 
-  -- and what a beginning gives
-  pub started_known : (a a' : Area) → Started g n a a' → Known a'
+      parted : Parts d a a' → GrownFor g a → GrownFor g a'
+      parted p grown = concludes_grown (first_automaton g) (second_automaton g) a p.claim p.kind p.count p.apart a' p.does grown
+
+  run_known : (cs : List Call) (a now : Area) → Runs cs a now → AllByRecursion (StepsOver n g) cs → Known a → Known now
+  run_known [] a now runs over known = subst Known (sym runs) known
+  run_known (d ∷ cs) a now runs over known = run_known cs runs.0 now runs.2 over.1 (known_on d a runs.0 over.0 (effect d a runs.0 runs.1) known)
+
+module _ {a : Area} (c : Comparison a) where
+  -- what a beginning gives
+  pub begun_known : Known c.schemas c.claim c.begun
   unfolding BeginsGrown
-  started_known a a' s = inl (started_held g n a a' s, begins_grown s.event g.first g.second g.first_sets g.second_sets a s.claim a' s.beginning)
+  begun_known =
+      let s = started_so c in
+      let g = c.schemas in
+      inl (started_held c, begins_grown s.event g.first g.second g.first_sets g.second_sets c.at s.claim c.begun s.does)
+
+  -- and what there is now, as long as its claim is the holder
+  pub now_grown : StepsOverItsOwn c → is_holder (said c.now) c.claim ≡ true → GrownFor c.schemas c.now
+  now_grown over holder = stands_now c.claim (GrownFor c.schemas) c.now (run_known c.schemas c.claim c.since c.begun c.now c.goes_on over begun_known) holder
+
+  -- one that is concluded now is the holder's
+  pub concluder : (v : Concluded) → ConcludesNow c v → IsHolder c
+  concluder v asked =
+      let its = claim_permitted (said c.now) asked.claim.numbers Conclude asked.does.0 in
+      subst (λ (m : Numbers). is_holder (said c.now) m ≡ true) asked.own (held_holder (said c.now) asked.claim.numbers its.0)
 
 module _ (A B : Automaton) where
   included_right : Inclusion A B → (count : ℕ) → Right A B (Included count)
@@ -86,26 +108,13 @@ module _ (A B : Automaton) where
   last_reached w k count claim grown is =
       let last : LastBroken A B w k = subst (Stands A B w) is grown.stands in
       let r = grown.reached (w.examined - 1) last.pair last.at in
-      (r.0, last.pair.first, last.pair.second, r.2, r.3, last.broken)
+      record { word = r.0; first = last.pair.first; second = last.pair.second; live = r.2; beside = r.3; broken = last.broken }
 
--- its own numbers
-pub these : (n m : Numbers) → m ≡ n → are n m ≡ true
-these n m same = and_from _ _ (eq-eqb m.area n.area (ap (λ (x : Numbers). x.area) same)) (eq-eqb m.serial n.serial (ap (λ (x : Numbers). x.serial) same))
+  conclusion_right : (a a' : Area) (claim : Lease Comparing) (v : Concluded) → Grown A B (said a) → Conclusion a claim (Ok v) a' → Right A B v
+  unfolding IncludedCarries ApartTells
+  conclusion_right a a' claim (Included count) grown does = included_right (included_carries A B (said a) grown does.1.0) count
+  conclusion_right a a' claim (Apart k count apart) grown does = apart_right (apart_tells A B (said a) k grown (inl does.1.0)) k count apart (last_reached (said a) k count apart grown does.1.0)
 
--- a comparison that has ended is not the holder
-pub not_held_by : (n : Numbers) (w : Work) → Gone n w → held_by w n.serial ≡ true → ⊥
-not_held_by n w gone held =
-    let parts = and_parts _ (eqb n.serial w.serial) held in
-    not_holders n w n gone (record { area = sym gone.number; serial = eqb-true n.serial w.serial parts.1; busy = not-true _ parts.0 }) (these n n refl)
-
-conclusion_right : (A B : Automaton) (a a' : Area) (claim : Lease Comparing) (v : Concluded) → Grown A B (said a) → Conclusion a claim (Ok v) a' → Right A B v
-unfolding IncludedCarries ApartTells
-conclusion_right A B a a' claim (Included count) grown does = included_right A B (included_carries A B (said a) grown does.1.0) count
-conclusion_right A B a a' claim (Apart k count apart) grown does = apart_right A B (apart_tells A B (said a) k grown (inl does.1.0)) k count apart (last_reached A B (said a) k count apart grown does.1.0)
-
-pub concluded : (a : Area) (c : Comparison a) → StepsOverItsOwn c → (claim : Lease Comparing) → claim.numbers ≡ c.claim → (v : Concluded) (a' : Area) → Conclusion c.now claim (Ok v) a' → Right (first_of c.schemas) (second_of c.schemas) v
-concluded a c over claim same v a' does =
-    ⊎_elim
-    (λ known. conclusion_right (first_of c.schemas) (second_of c.schemas) c.now a' claim v known.1 does)
-    (λ gone. absurd (not_holders c.claim (said c.now) claim.numbers gone (permitted (said c.now) claim.numbers Conclude does.0).0 (these c.claim claim.numbers same)))
-    (run_known c.schemas c.claim c.since c.begun c.now c.goes_on over (started_known c.schemas c.claim c.at c.begun (started_so c)))
+pub concluded : (a : Area) (c : Comparison a) → StepsOverItsOwn c → (v : Concluded) → ConcludesNow c v → Right (first_automaton c.schemas) (second_automaton c.schemas) v
+concluded a c over v asked =
+    conclusion_right (first_automaton c.schemas) (second_automaton c.schemas) c.now asked.after asked.claim v (now_grown c over (concluder c v asked)) asked.does

@@ -1,4 +1,5 @@
 pub mod Calls
+pub mod Comparisons
 pub mod Example
 pub mod Law
 pub mod Marked
