@@ -11,31 +11,38 @@ use Rattle.compare.specs.declared.claim.Lease.{Lease}
 use Rattle.compare.specs.declared.claim.Numbers.{Numbers}
 use Rattle.compare.specs.declared.conclude.Concluded.{Concluded}
 use Rattle.compare.specs.declared.event.Event.{Event}
-use Rattle.compare.specs.declared.event.Event.TheVariants.{Step, Conclude, Write}
+use Rattle.compare.specs.declared.event.Event.TheVariants.{Conclude, Write}
 use Rattle.compare.specs.Concluding.{claim_refusal, Conclusion, GivingUp}
-use Rattle.compare.specs.Refusals.{other_symbols, phase_refuses, where_found}
-use Rattle.compare.specs.Stepping.{step_refusal, Stepping}
+use Rattle.compare.specs.Refusals.{other_symbols, phase_refuses, where_found, held_kept_from}
+use Rattle.compare.specs.Stepping.{step_kept_from, step_refusal, Stepping}
 use Rattle.compare.specs.Strangers.{is_holder, stranger, StepOfStranger, ConclusionOfStranger, TrailOfStranger, GivingUpOfStranger}
 use Rattle.compare.specs.Trailing.{no_room, trail_refusal, TrailAnswer}
 use Rattle.compare.specs.Work.{Work, said, held_by}
+use Rattle.compare.proofs.Tests.{holder_refused, held_refused}
 
 -- what is asked with numbers that are not the holder's is refused
 pub claim_refused : (w : Work) (n : Numbers) (e : Event) → is_holder w n ≡ false → claim_refusal w n e ≡ Some (stranger w n)
-claim_refused w n e other = by (eqb n.area w.number) (held_by w n.serial) other
-  where
-    by : (s h : Bool) → (s && h) ≡ false → first_of (where_found (not s) w Foreign ∷ where_found (not h) w Ousted ∷ phase_refuses w e ∷ []) ≡ Some (record { fault = cond s Ousted Foreign; place = w.serial })
-    by true true other = absurd (both_ways true other refl)
-    by true false other = refl
-    by false h other = refl
+claim_refused w n e other = ap (λ (o : Option Refusal). first_of (o ∷ phase_refuses w e ∷ [])) (holder_refused w n other)
 
--- a refusal that is found third
-third : (o p q : Option Refusal) (rest : List (Option Refusal)) (x : Refusal) → q ≡ Some x → first_of (o ∷ first_of (p ∷ q ∷ rest) ∷ []) ≡ first_of (o ∷ p ∷ Some x ∷ [])
-third (Some e) p q rest x is = refl
-third None (Some e) q rest x is = refl
-third None None q rest x is = ap (λ (r : Option Refusal). first_of (first_of (r ∷ rest) ∷ [])) is
+-- what is found among the first tests is found of more behind them
+pub found_within : (p q : Option Refusal) (x : Refusal) (rest : List (Option Refusal)) → q ≡ first_of (p ∷ Some x ∷ []) → first_of (q ∷ rest) ≡ first_of (p ∷ Some x ∷ [])
+found_within p q x rest is = ap (λ (r : Option Refusal). first_of (r ∷ rest)) is ∙ by p
+  where
+    by : (p : Option Refusal) → first_of (first_of (p ∷ Some x ∷ []) ∷ rest) ≡ first_of (p ∷ Some x ∷ [])
+    by (Some e) = refl
+    by None = refl
+
+-- and behind a test more
+pub found_third : (o p q : Option Refusal) (x : Refusal) → q ≡ first_of (p ∷ Some x ∷ []) → first_of (o ∷ q ∷ []) ≡ first_of (o ∷ p ∷ Some x ∷ [])
+found_third o p q x is = ap (λ (r : Option Refusal). first_of (o ∷ r ∷ [])) is ∙ by o p
+  where
+    by : (o p : Option Refusal) → first_of (o ∷ first_of (p ∷ Some x ∷ []) ∷ []) ≡ first_of (o ∷ p ∷ Some x ∷ [])
+    by (Some e) p = refl
+    by None (Some e) = refl
+    by None None = refl
 
 -- something is found
-some_found : (o p : Option Refusal) (x : Refusal) → first_of (o ∷ p ∷ Some x ∷ []) ≡ None → ⊥
+pub some_found : (o p : Option Refusal) (x : Refusal) → first_of (o ∷ p ∷ Some x ∷ []) ≡ None → ⊥
 some_found (Some e) p x none = none-some _ (sym none)
 some_found None (Some e) x none = none-some _ (sym none)
 some_found None None x none = none-some _ (sym none)
@@ -48,7 +55,7 @@ step_of_stranger T U sets others claim n slots a r a' is other = by r is
     w = said a
 
     same : step_refusal w T U claim n slots ≡ first_of (either_fault T U ∷ other_symbols w T U ∷ Some (stranger w claim) ∷ [])
-    same = third (either_fault T U) (other_symbols w T U) (claim_refusal w claim Step) _ (stranger w claim) (claim_refused w claim Step other)
+    same = found_third (either_fault T U) (other_symbols w T U) (step_kept_from w T U claim n slots) (stranger w claim) (found_within (other_symbols w T U) (held_kept_from w T U claim) (stranger w claim) _ (held_refused w claim T U other))
 
     by : (r : Result (ℕ × ℕ) Refusal) → Stepping T U sets others claim n slots a r a' → (e : Refusal) × (r ≡ Err e) × (first_of (either_fault T U ∷ other_symbols w T U ∷ Some (stranger w claim) ∷ []) ≡ Some e) × (a' ≡ a)
     by (Ok answer) is = absurd (some_found (either_fault T U) (other_symbols w T U) (stranger w claim) (sym same ∙ is.0))

@@ -12,12 +12,12 @@ use Rattle.compare.specs.declared.event.Event.{Event}
 use Rattle.compare.specs.declared.event.Event.TheVariants.{Conclude}
 use Rattle.compare.specs.declared.phase.Phase.TheVariants as phase
 use Rattle.compare.specs.declared.phase.Verdict.TheVariants as verdict
-use Rattle.compare.specs.Refusals.{of_another, not_held, phase_refuses}
+use Rattle.compare.specs.Refusals.{of_another, phase_refuses, holder_refusal}
 use Rattle.compare.specs.Work.{Work, said, free, in_phase, held_by}
 
--- the refusal of what the claim with these numbers asks: it is of another area, it is not the holder's, or the phase refuses it
+-- the refusal of what the claim with these numbers asks: they are not the holder's, or the phase refuses it
 abbrev pub claim_refusal : Work → Numbers → Event → Option Refusal
-claim_refusal w n e = first_of (of_another w n.area ∷ not_held w n.serial ∷ phase_refuses w e ∷ [])
+claim_refusal w n e = first_of (holder_refusal w n ∷ phase_refuses w e ∷ [])
 
 -- what a conclusion says of the ready area, and leaves: included frees it, and apart turns it apart, with an apart claim; both tell how many
 -- pairs were examined

@@ -11,7 +11,7 @@ use Rattle.compare.specs.declared.claim.Numbers.{Numbers}
 use Rattle.compare.specs.declared.conclude.Concluded.{Concluded}
 use Rattle.compare.specs.declared.conclude.Concluded.TheVariants.{Included, Apart}
 use Rattle.compare.specs.declared.event.Decision.{Decision}
-use Rattle.compare.specs.declared.event.Decision.TheVariants.{Begin, Examine, Release, Part, Stay, Refuse}
+use Rattle.compare.specs.declared.event.Decision.TheVariants.{Begin, Examine, Release, Part, Stay}
 use Rattle.compare.specs.declared.event.Event.{Event}
 use Rattle.compare.specs.declared.event.Event.TheVariants.{Step, Conclude, Write, GiveUp}
 use Rattle.compare.specs.declared.phase.Kind.{Kind}
@@ -30,12 +30,9 @@ BeginsAsDecided e = (T U : Tables) (sets : List (ℕ → Bool)) (a : Area) (clai
 -- what an accepted step does by a decision: it examines, in one turn at least; or the area stays as it was, and 0 pairs and a standing verdict
 -- are answered
 abbrev pub StepsBy : Automaton → Automaton → Decision → Area → ℕ × ℕ → Area → Type 0
-StepsBy A B Begin a answer a' = ⊥
 StepsBy A B Examine a answer a' = (k : ℕ) × Turns A B (suc k) (said a) (said a')
-StepsBy A B Release a answer a' = ⊥
-StepsBy A B (Part k) a answer a' = ⊥
 StepsBy A B Stay a answer a' = (answer ≡ (0, 1)) × (a' ≡ a)
-StepsBy A B (Refuse f) a answer a' = ⊥
+StepsBy A B d a answer a' = ⊥
 
 -- an accepted step does what the table decides
 unfoldable pub StepsAsDecided : Type 0
@@ -44,14 +41,9 @@ StepsAsDecided = (T U : Tables) (sets others : List (ℕ → Bool)) (claim : Num
 -- what an accepted conclusion comes to by a decision: released, it is included, and the area is free; parted by a kind, it is apart by that
 -- kind, and so is the area
 abbrev pub ConcludesBy : Decision → Area → Concluded → Area → Type 0
-ConcludesBy Begin a c a' = ⊥
-ConcludesBy Examine a c a' = ⊥
 ConcludesBy Release a (Included n) a' = said a' ≡ free a.number a.serial
-ConcludesBy Release a (Apart k n claim) a' = ⊥
-ConcludesBy (Part k) a (Included n) a' = ⊥
 ConcludesBy (Part k) a (Apart l n claim) a' = (l ≡ k) × (said a' ≡ in_phase (said a) (phase.Apart k))
-ConcludesBy Stay a c a' = ⊥
-ConcludesBy (Refuse f) a c a' = ⊥
+ConcludesBy d a c a' = ⊥
 
 -- an accepted conclusion comes to what the table decides
 unfoldable pub ConcludesAsDecided : Type 0
@@ -66,12 +58,9 @@ TrailsAsDecided =
 -- what giving up a claim with that serial does by a decision: released, the area is free and 1 is answered, where the serial is the area's; and
 -- else it stays as it was, and 0 is answered
 abbrev pub GivesUpBy : Decision → Area → ℕ → ℕ → Area → Type 0
-GivesUpBy Begin a serial n a' = ⊥
-GivesUpBy Examine a serial n a' = ⊥
 GivesUpBy Release a serial n a' = cond (serial == a.serial) ((n ≡ 1) × (said a' ≡ free a.number a.serial)) ((n ≡ 0) × (a' ≡ a))
-GivesUpBy (Part k) a serial n a' = ⊥
 GivesUpBy Stay a serial n a' = (n ≡ 0) × (a' ≡ a)
-GivesUpBy (Refuse f) a serial n a' = ⊥
+GivesUpBy d a serial n a' = ⊥
 
 -- an accepted giving up does what the table decides
 unfoldable pub GivesUpAsDecided : Type 0

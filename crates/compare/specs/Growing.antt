@@ -40,11 +40,9 @@ pub record SameAutomata (A B : Automaton) : Type 0 where
 
 -- how many pairs are settled: every examined one, but where the verdict is apart the last one broke
 abbrev pub settled : Phase → ℕ → ℕ
-settled phase.Free n = n
-settled phase.Running n = n
-settled (phase.Ready verdict.Included) n = n
 settled (phase.Ready (verdict.Apart k)) n = n - 1
 settled (phase.Apart k) n = n - 1
+settled p n = n
 
 module _ (A B : Automaton) where
   -- the trail of every listed pair leads the first automaton along live symbols, and the second too, from state 0 to the pair's states

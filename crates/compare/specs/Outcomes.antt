@@ -23,9 +23,8 @@ use Rattle.compare.specs.Work.{Work, said, in_phase}
 -- the same is answered, where a relation says when two values are the same; refusals are equal, and what goes back with them too
 abbrev pub SameAnswer : {X E : Type 0} → (X → X → Type 0) → Result X E → Result X E → Type 0
 SameAnswer Same (Ok x) (Ok y) = Same x y
-SameAnswer Same (Ok x) (Err f) = ⊥
-SameAnswer Same (Err e) (Ok y) = ⊥
 SameAnswer Same (Err e) (Err f) = e ≡ f
+SameAnswer Same r s = ⊥
 
 -- two claims of one kind with the same numbers
 abbrev pub SameClaim : {S : Type 0} → Lease S → Lease S → Type 0
@@ -34,9 +33,8 @@ SameClaim c d = c.numbers ≡ d.numbers
 -- the same conclusion: kind, count, and the claim's numbers
 abbrev pub SameConclusion : Concluded → Concluded → Type 0
 SameConclusion (concluded.Included n) (concluded.Included m) = n ≡ m
-SameConclusion (concluded.Included n) (concluded.Apart l m d) = ⊥
-SameConclusion (concluded.Apart k n c) (concluded.Included m) = ⊥
 SameConclusion (concluded.Apart k n c) (concluded.Apart l m d) = (k ≡ l) × (n ≡ m) × SameClaim c d
+SameConclusion c d = ⊥
 
 -- the same is said of two areas; or both are ready with apart, and differ at most in the kind: then the pair examined last is broken in both ways
 abbrev pub ButForKind : Automaton → Automaton → Work → Work → Type 0

@@ -9,16 +9,14 @@ use Rattle.schema.specs.Live.{LiveSymbol}
 use Rattle.schema.specs.Tables.{Tables, automaton}
 use Rattle.compare.specs.declared.area.Area.{Area}
 use Rattle.compare.specs.declared.claim.Numbers.{Numbers}
-use Rattle.compare.specs.declared.event.Event.TheVariants.{Step}
 use Rattle.compare.specs.declared.pairs.Listed.{Listed}
 use Rattle.compare.specs.declared.phase.Kind.{Kind}
 use Rattle.compare.specs.declared.phase.Phase.{Phase}
 use Rattle.compare.specs.declared.phase.Phase.TheVariants as phase
 use Rattle.compare.specs.declared.phase.Verdict.TheVariants as verdict
 use Rattle.compare.specs.Breaking.{Broken, Unbroken}
-use Rattle.compare.specs.Concluding.{claim_refusal}
 use Rattle.compare.specs.Pairs.{with_pair}
-use Rattle.compare.specs.Refusals.{other_symbols, other_counts, wrong_steps, short_scratch}
+use Rattle.compare.specs.Refusals.{held_kept_from, wrong_steps, short_scratch}
 use Rattle.compare.specs.Work.{Work, said, in_phase}
 
 -- the pair of two next states, where both are there and the symbol is live; i is the place of the pair that led to it
@@ -45,7 +43,7 @@ module _ (A B : Automaton) where
 
 -- the area with one pair more examined, these pairs listed, and another phase
 abbrev pub examined_to : Work → List Listed → Phase → Work
-examined_to w es p = record { number = w.number; serial = w.serial; phase = p; symbols = w.symbols; firsts = w.firsts; seconds = w.seconds; pairs = es; examined = w.examined + 1 }
+examined_to w es p = record w { phase = p; pairs = es; examined = w.examined + 1 }
 
 -- ready with included where every listed pair is examined, and running where not
 abbrev pub going_on : ℕ → List Listed → Phase
@@ -53,7 +51,7 @@ going_on examined es = cond (examined == length es) (phase.Ready verdict.Include
 
 -- the area with these pairs listed and another phase
 abbrev pub listed_to : Work → List Listed → Phase → Work
-listed_to w es p = record { number = w.number; serial = w.serial; phase = p; symbols = w.symbols; firsts = w.firsts; seconds = w.seconds; pairs = es; examined = w.examined }
+listed_to w es p = record w { phase = p; pairs = es }
 
 module _ (A B : Automaton) where
   -- the pairs of next states of a pair under its live symbols are listed; it is at place i
@@ -87,18 +85,12 @@ module _ (A B : Automaton) where
 
 -- the area runs
 abbrev pub is_running : Phase → Bool
-is_running phase.Free = false
 is_running phase.Running = true
-is_running (phase.Ready v) = false
-is_running (phase.Apart k) = false
-
--- what keeps sound schemas from anything that the claim with these numbers asks, where it asks no more than a step does
-abbrev pub held_kept_from : Work → Tables → Tables → Numbers → Option Refusal
-held_kept_from w T U claim = first_of (other_symbols w T U ∷ claim_refusal w claim Step ∷ other_counts w T U ∷ [])
+is_running p = false
 
 -- what keeps sound schemas from a step of the claim with these numbers, which asks for n pairs and lends so many slots
 abbrev pub step_kept_from : Work → Tables → Tables → Numbers → ℕ → ℕ → Option Refusal
-step_kept_from w T U claim n slots = first_of (other_symbols w T U ∷ claim_refusal w claim Step ∷ other_counts w T U ∷ wrong_steps w n ∷ short_scratch slots ∷ [])
+step_kept_from w T U claim n slots = first_of (held_kept_from w T U claim ∷ wrong_steps w n ∷ short_scratch slots ∷ [])
 
 -- the refusal of a step, in the order of the tests
 abbrev pub step_refusal : Work → Tables → Tables → Numbers → ℕ → ℕ → Option Refusal

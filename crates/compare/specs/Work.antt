@@ -4,7 +4,7 @@ use Rattle.schema.specs.Tables.{Tables}
 use Rattle.compare.specs.declared.area.Area.{Area}
 use Rattle.compare.specs.declared.pairs.Listed.{Listed}
 use Rattle.compare.specs.declared.phase.Phase.{Phase}
-use Rattle.compare.specs.declared.phase.Phase.TheVariants.{Free, Running, Ready, Apart}
+use Rattle.compare.specs.declared.phase.Phase.TheVariants.{Free, Running, Ready}
 use Rattle.compare.specs.declared.phase.Verdict.TheVariants.{Included}
 use Rattle.compare.specs.Listing.{entries_of}
 
@@ -56,14 +56,12 @@ begun w T U live = record {
 
 -- the area with another phase
 abbrev pub in_phase : Work → Phase → Work
-in_phase w p = record { number = w.number; serial = w.serial; phase = p; symbols = w.symbols; firsts = w.firsts; seconds = w.seconds; pairs = w.pairs; examined = w.examined }
+in_phase w p = record w { phase = p }
 
 -- the area has no comparison
 abbrev pub is_free : Phase → Bool
 is_free Free = true
-is_free Running = false
-is_free (Ready v) = false
-is_free (Apart k) = false
+is_free p = false
 
 -- the claim with the serial, of this area, is the holder: there is a comparison, and the claim is of it
 abbrev pub held_by : Work → ℕ → Bool

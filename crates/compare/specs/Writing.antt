@@ -9,13 +9,13 @@ use Rattle.compare.specs.declared.event.Event.TheVariants.{Write}
 use Rattle.compare.specs.declared.phase.Kind.{Kind}
 use Rattle.compare.specs.declared.phase.Phase.TheVariants.{Apart}
 use Rattle.compare.specs.declared.writing.BrokenPair.{BrokenPair}
-use Rattle.compare.specs.Refusals.{other_symbols, of_another, not_held, other_counts, phase_refuses, short_scratch}
+use Rattle.compare.specs.Refusals.{held_kept_from, phase_refuses, short_scratch}
 use Rattle.compare.specs.Trailing.{broken_index}
 use Rattle.compare.specs.Work.{Work, said}
 
 -- what keeps sound schemas from a document of the claim with these numbers, which lends so many row pairs
 abbrev pub write_kept_from : Work → Tables → Tables → Numbers → ℕ → Option Refusal
-write_kept_from w T U claim slots = first_of (other_symbols w T U ∷ of_another w claim.area ∷ not_held w claim.serial ∷ other_counts w T U ∷ phase_refuses w Write ∷ short_scratch slots ∷ [])
+write_kept_from w T U claim slots = first_of (held_kept_from w T U claim ∷ phase_refuses w Write ∷ short_scratch slots ∷ [])
 
 -- the broken pair of an area that is apart, with the list that it stands in
 abbrev pub BrokenOf : Area → Option BrokenPair → Type 0

@@ -3,7 +3,7 @@ ghost use Rattle.std.specs.Prelude.{◌≡◌, false, ◌==◌};
 ghost use Rattle.domain.specs.Kinds.{bit};
 ghost use Rattle.compare.specs.Beginning.{«kept_from»};
 ghost use Rattle.compare.specs.Concluding.{claim_refusal};
-ghost use Rattle.compare.specs.Refusals.{Refuses, phase_refuses};
+ghost use Rattle.compare.specs.Refusals.{Refuses, phase_refuses, holder_refusal};
 ghost use Rattle.compare.specs.Schemas.{first_tables, second_tables};
 ghost use Rattle.schema.specs.Tables.{tables};
 ghost use Rattle.compare.specs.Work.{said, free, begun};
@@ -124,16 +124,24 @@ impl Area {
         })
     }
 
-    /// Refuses what is refused of the claim with these numbers: `foreign`, `ousted`, or what the phase refuses.
-    pub(crate) fn permits_claim(&self, claim: Numbers, event: Event) -> Result<(), Refusal>
-        ensures { Refuses (claim_refusal (said self.now) claim event) result }
+    /// Refuses numbers that are not the holder's: `foreign` or `ousted`.
+    pub(crate) fn permits_holder(&self, claim: Numbers) -> Result<(), Refusal>
+        ensures { Refuses (holder_refusal (said self.now) claim) result }
     {
         if claim.area != self.number {
             return Err(refusal(self, Fault::Foreign));
         }
-        if self.phase == Phase::Free || claim.serial != self.serial {
+        if claim.serial != self.serial {
             return Err(refusal(self, Fault::Ousted));
         }
+        self.permits(Event::Hold)
+    }
+
+    /// Refuses what is refused of the claim with these numbers: `foreign`, `ousted`, or what the phase refuses.
+    pub(crate) fn permits_claim(&self, claim: Numbers, event: Event) -> Result<(), Refusal>
+        ensures { Refuses (claim_refusal (said self.now) claim event) result }
+    {
+        self.permits_holder(claim)?;
         self.permits(event)
     }
 

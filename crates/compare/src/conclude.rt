@@ -32,20 +32,22 @@ pub fn conclude(area: &mut Area, claim: Claim) -> Result<Concluded, (Refusal, Cl
     ensures early { ConclusionEarly }
 {
     // no `?`: the claim goes back with the refusal
-    if let Err(refusal) = area.permits_claim(claim.numbers(), Event::Conclude) {
+    if let Err(refusal) = area.permits_holder(claim.numbers()) {
         return Err((refusal, claim));
     }
     let examined = area.examined as usize;
     match decide(area.phase, Event::Conclude) {
-        Decision::Part(kind) => {
-            area.phase = Phase::Apart(kind);
-            Ok(Concluded::Apart(kind, examined, claim.part()))
-        }
-        _ => {
+        Decision::Release => {
             claim.spend();
             area.release();
             Ok(Concluded::Included(examined))
         }
+        Decision::Part(kind) => {
+            area.phase = Phase::Apart(kind);
+            Ok(Concluded::Apart(kind, examined, claim.part()))
+        }
+        Decision::Refuse(fault) => Err((refusal(area, fault), claim)),
+        Decision::Begin | Decision::Examine | Decision::Stay => unreachable!(),
     }
 }
 

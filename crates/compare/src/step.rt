@@ -6,9 +6,9 @@ ghost use Rattle.compare.specs.Deciding.{StepsAsDecided};
 ghost use Rattle.compare.specs.Growing.{StepsGrown, GrownSame};
 ghost use Rattle.compare.specs.Listing.{entries_of, FewPairs};
 ghost use Rattle.compare.specs.Outcomes.{OneStepping};
-ghost use Rattle.compare.specs.Refusals.{Refuses};
+ghost use Rattle.compare.specs.Refusals.{Refuses, held_kept_from};
 ghost use Rattle.compare.specs.Schemas.{first_automaton, second_automaton, StatePair, MarksLive, Noted};
-ghost use Rattle.compare.specs.Stepping.{next_pair, with_nexts, GoesOn, Turn, Stepped, Stepping, step_kept_from, held_kept_from, is_running};
+ghost use Rattle.compare.specs.Stepping.{next_pair, with_nexts, GoesOn, Turn, Stepped, Stepping, step_kept_from, is_running};
 ghost use Rattle.compare.specs.Strangers.{StepOfStranger};
 ghost use Rattle.compare.specs.Work.{said};
 
@@ -158,8 +158,7 @@ impl Area {
         if first.symbols() != second.symbols() {
             return Err(refusal(self, Fault::Symbols));
         }
-        // no phase refuses a holder's step
-        self.permits_claim(claim, Event::Step)?;
+        self.permits_holder(claim)?;
         if !self.has_noted(first, second) {
             return Err(refusal(self, Fault::Schemas));
         }

@@ -1,5 +1,6 @@
 -- The tests in their order, and then the pairs. Assumes nothing.
-use Rattle.std.proofs.Common.{◌≡◌, ℕ, length, None, sym, ap, ◌∙◌, subst}
+use Rattle.std.proofs.Common.{◌≡◌, ℕ, length, Some, None, sym, refl, ap, ◌∙◌, subst}
+use Rattle.std.proofs.lemmas.Result.{err_from_is_err_and}
 use Rattle.schema.specs.declared.tables.Schema.{Schema}
 use Rattle.schema.specs.declared.tested.Tested.{Tested}
 use Rattle.schema.specs.Tables.{tables, sets, automaton}
@@ -34,3 +35,18 @@ returns-clause-outcome g c =
     subst (λ (s : Schema g.row.D.Denot). (step_refusal w (tables s) (tables c.args.second.now) c.args.claim c.args.steps slots ≡ None) × StepsOn (automaton (tables s) (sets g.D.Domain.holds s)) (automaton (tables c.args.second.now) (sets g.D.Domain.holds c.args.second.now)) c.args.steps w answer w') firsts
     (subst (λ (v : Schema g.row.D.Denot). (step_refusal w (tables s) (tables v) c.args.claim c.args.steps slots ≡ None) × StepsOn (automaton (tables s) (sets g.D.Domain.holds s)) (automaton (tables v) (sets g.D.Domain.holds v)) c.args.steps w answer w') seconds
     (past_either (tables s) (tables u) (step_kept_from w (tables s) (tables u) c.args.claim c.args.steps slots) None compared.first.now.sound compared.second.now.sound none, on))
+
+pub returns-in_err-permits_step-clause-outcome : goal.returns-in_err-permits_step-clause-outcome
+returns-in_err-permits_step-clause-outcome g c =
+    let w = said c.args.area.now in
+    let s = c.in_ok-first.first.measured.schema in
+    let u = c.in_ok-first.second.measured.schema in
+    let slots = length c.args.scratch.now in
+    let e = c.in_err-permits_step.field-0.0 in
+    let p = err_from_is_err_and c.from_residual-in_err-permits_step.result c.from_residual-in_err-permits_step.ensures.1 in
+    rw (p.1, p.2) (
+      subst (λ (s : Schema g.row.D.Denot). step_refusal w (tables s) (tables c.args.second.now) c.args.claim c.args.steps slots ≡ Some e) c.in_ok-first.ensures.0
+          (subst (λ (v : Schema g.row.D.Denot). step_refusal w (tables s) (tables v) c.args.claim c.args.steps slots ≡ Some e) c.in_ok-first.ensures.1
+          (past_either (tables s) (tables u) (step_kept_from w (tables s) (tables u) c.args.claim c.args.steps slots) (Some e) c.in_ok-first.first.sound c.in_ok-first.second.sound c.in_err-permits_step.ensures)),
+      refl,
+    )
