@@ -3,7 +3,7 @@
 use Rattle.std.proofs.Common.{◌≡◌, ℕ, ◌≤◌, true, false, Bool, eqb, ltb, List, [], ◌∷◌, Some, None, Option, sym, refl, ap, ◌∙◌}
 use Rattle.std.proofs.lemmas.Bool.{and_from, and_parts, cond-false, eq-eqb, eqb-true, le-ltb, not-false, not-true, not_from_false, not_from_true}
 use Rattle.refusal.specs.declared.fault.Fault.{Fault}
-use Rattle.refusal.specs.declared.fault.Fault.TheVariants.{Foreign, Ousted, Schemas, Symbols}
+use Rattle.refusal.specs.declared.fault.Fault.TheVariants.{Schemas, Symbols}
 use Rattle.refusal.specs.declared.fault.Refusal.{Refusal}
 use Rattle.refusal.specs.Order.{first_of}
 use Rattle.schema.specs.Faults.{either_fault}
@@ -12,22 +12,24 @@ use Rattle.schema.proofs.Sound.{first_none, some_not_none}
 use Rattle.search.specs.declared.pairs.TheConstants.{ROW_PAIRS}
 use Rattle.compare.specs.declared.claim.Numbers.{Numbers}
 use Rattle.compare.specs.declared.event.Event.{Event}
-use Rattle.compare.specs.declared.event.Event.TheVariants.{Take, Step, Conclude, Write}
+use Rattle.compare.specs.declared.event.Event.TheVariants.{Take, Conclude, Write}
 use Rattle.compare.specs.declared.phase.Kind.{Kind}
 use Rattle.compare.specs.declared.phase.Phase.{Phase}
 use Rattle.compare.specs.declared.phase.Phase.TheVariants as phase
 use Rattle.compare.specs.declared.phase.Verdict.{Verdict}
 use Rattle.compare.specs.declared.phase.Verdict.TheVariants as verdict
-use Rattle.compare.specs.Beginning.{begin_refusal, kept_from}
+use Rattle.compare.specs.Beginning.{begin_refusal, kept_from as begin_kept_from}
 use Rattle.compare.specs.Concluding.{claim_refusal}
 use Rattle.compare.specs.Phases.{decided}
-use Rattle.compare.specs.Refusals.{where_found, by_phase, of_another, not_held, other_symbols, other_counts, phase_refuses}
+use Rattle.compare.specs.Refusals.{where_found, by_phase, of_another, other_symbols, other_counts, phase_refuses, short_scratch, holder_refusal, held_kept_from}
 use Rattle.compare.specs.Stepping.{step_kept_from, step_refusal}
 use Rattle.compare.specs.Strangers.{is_holder}
 use Rattle.compare.specs.Work.{Work, is_free, held_by}
-use Rattle.compare.proofs.Allowing.{fails}
+use Rattle.compare.specs.Writing.{write_kept_from}
+use Rattle.compare.proofs.Allowing.{fails, held_allows}
+use Rattle.compare.proofs.Tests.{holder_passed, holder_passes}
 use Rattle.document.specs.declared.document.TheConstants.{LEVELS}
-use Rattle.document.specs.Writing.{early_refusal, kept_from as write_kept_from}
+use Rattle.document.specs.Writing.{short_levels, kept_from, early_refusal}
 
 -- the comparison whose claim has these numbers holds the area
 pub record Held (n : Numbers) (w : Work) : Type 0 where
@@ -71,63 +73,56 @@ module _ (w : Work) (n : Numbers) where
   -- what is not refused is asked by the holder, in a phase that lets it
   pub claim_permitted : (e : Event) → claim_refusal w n e ≡ None → Held n w × (phase_refuses w e ≡ None)
   claim_permitted e none =
-      let near = first_none (of_another w n.area) _ none in
-      let held = first_none (not_held w n.serial) _ near.1 in
-      (held_by_near near.0 (not-false _ (fails _ _ held.0)), (first_none (phase_refuses w e) [] held.1).0)
+      let holder = first_none (holder_refusal w n) _ none in
+      (holder_held (holder_passed w n holder.0), (first_none (phase_refuses w e) [] holder.1).0)
 
   pub step_permitted : (T U : Tables) (asked slots : ℕ) → step_refusal w T U n asked slots ≡ None → Held n w
   step_permitted T U asked slots none =
       let kept = (first_none (step_kept_from w T U n asked slots) [] (first_none (either_fault T U) _ none).1).0 in
-      (claim_permitted Step (first_none (claim_refusal w n Step) _ (first_none (other_symbols w T U) _ kept).1).0).0
+      holder_held (holder_passed w n (held_allows w T U n (first_none (held_kept_from w T U n) _ kept).0).0)
 
   pub document_permitted : (T U : Tables) (slots levels : ℕ) → early_refusal w T U n slots levels ≡ None → Held n w × (phase_refuses w Write ≡ None)
   document_permitted T U slots levels none =
-      let kept = (first_none (write_kept_from w T U n slots levels) [] (first_none (either_fault T U) _ none).1).0 in
-      let near = first_none (of_another w n.area) _ (first_none (other_symbols w T U) _ kept).1 in
-      let held = first_none (not_held w n.serial) _ near.1 in
-      let asked = first_none (phase_refuses w Write) _ (first_none (other_counts w T U) _ held.1).1 in
-      (held_by_near near.0 (not-false _ (fails _ _ held.0)), asked.0)
-
-  -- the holder's claim is neither foreign nor ousted
-  near_held : Held n w → (of_another w n.area ≡ None) × (not_held w n.serial ≡ None)
-  near_held held = (
-    not_found _ w Foreign (not_from_true _ (eq-eqb n.area w.number (sym held.number))),
-    not_found _ w Ousted (not_from_true _ (held_by_held held)),
-  )
+      let kept = (first_none (kept_from w T U n slots levels) [] (first_none (either_fault T U) _ none).1).0 in
+      let held = first_none (held_kept_from w T U n) _ (first_none (write_kept_from w T U n slots) _ kept).0 in
+      (holder_held (holder_passed w n (held_allows w T U n held.0).0), (first_none (phase_refuses w Write) _ held.1).0)
 
   -- the holder's conclusion of a ready area is not refused
   pub conclusion_permitted : (v : Verdict) → Held n w → w.phase ≡ phase.Ready v → claim_refusal w n Conclude ≡ None
   conclusion_permitted v held is =
-      let its = near_held held in
-      then_none _ _ its.0 (then_none _ _ its.1 (then_none _ _ (ap (λ (p : Phase). by_phase w (decided p Conclude)) is ∙ by v) refl))
+      then_none _ _ (holder_passes w n (held_holder held)) (then_none _ _ (ap (λ (p : Phase). by_phase w (decided p Conclude)) is ∙ by v) refl)
     where
       by : (v : Verdict) → by_phase w (decided (phase.Ready v) Conclude) ≡ None
       by verdict.Included = refl
       by (verdict.Apart k) = refl
 
-  -- nor is its document of an area that is apart, with the schemas' counts noted and scratch enough,
-  -- where no test of the schemas finds anything
+  -- nor is its document of an area that is apart, with the schemas' counts noted and scratch enough, where no
+  -- test of the schemas finds anything
   pub nothing_early : (T U : Tables) (k : Kind) (slots levels : ℕ) → either_fault T U ≡ None → other_symbols w T U ≡ None → Noted T U w → Held n w → w.phase ≡ phase.Apart k → ROW_PAIRS ≤ slots → LEVELS ≤ levels → early_refusal w T U n slots levels ≡ None
   nothing_early T U k slots levels sound same noted held apart many deep =
-      let its = near_held held in
-      let counts : other_counts w T U ≡ None = not_found _ w Schemas (not_from_true _ (and_from _ _ (eq-eqb _ _ noted.symbols) (and_from _ _ (eq-eqb _ _ noted.firsts) (eq-eqb _ _ noted.seconds)))) in
-      then_none _ _ sound
-      (then_none _ _
-      (then_none _ _ same
-      (then_none _ _ its.0
-      (then_none _ _ its.1
-      (then_none _ _ counts
-      (then_none _ _ (ap (λ (p : Phase). by_phase w (decided p Write)) apart)
-      (then_none _ _ (cond-false (ltb slots ROW_PAIRS) _ None (le-ltb slots ROW_PAIRS many))
-      (then_none _ _ (cond-false (ltb levels LEVELS) _ None (le-ltb levels LEVELS deep)) refl)))))))
-      refl)
+      then_none _ _ sound (then_none _ _ (then_none _ _ (then_none _ _ asked (then_none _ _ writes (then_none _ _ slots_suffice refl))) (then_none _ _ levels_suffice refl)) refl)
+    where
+      counts : other_counts w T U ≡ None
+      counts = not_found _ w Schemas (not_from_true _ (and_from _ _ (eq-eqb _ _ noted.symbols) (and_from _ _ (eq-eqb _ _ noted.firsts) (eq-eqb _ _ noted.seconds))))
+
+      asked : held_kept_from w T U n ≡ None
+      asked = then_none _ _ same (then_none _ _ (holder_passes w n (held_holder held)) (then_none _ _ counts refl))
+
+      writes : phase_refuses w Write ≡ None
+      writes = ap (λ (p : Phase). by_phase w (decided p Write)) apart
+
+      slots_suffice : short_scratch slots ≡ None
+      slots_suffice = cond-false (ltb slots ROW_PAIRS) _ None (le-ltb slots ROW_PAIRS many)
+
+      levels_suffice : short_levels levels ≡ None
+      levels_suffice = cond-false (ltb levels LEVELS) _ None (le-ltb levels LEVELS deep)
 
 module _ (w : Work) (T U : Tables) where
   -- what begins is not refused by the schemas, their symbols or the phase
   pub begin_permitted : (e : Event) → begin_refusal w T U e ≡ None → (either_fault T U ≡ None) × (other_symbols w T U ≡ None) × (phase_refuses w e ≡ None)
   begin_permitted e none =
       let sound = first_none (either_fault T U) _ none in
-      let kept = first_none (other_symbols w T U) _ (first_none (kept_from w T U e) [] sound.1).0 in
+      let kept = first_none (other_symbols w T U) _ (first_none (begin_kept_from w T U e) [] sound.1).0 in
       (sound.0, kept.0, (first_none (phase_refuses w e) _ kept.1).0)
 
   -- and it does not depend on the area whether two schemas differ in symbols
