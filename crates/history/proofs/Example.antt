@@ -149,4 +149,4 @@ module _ (a : Area) (made : said a ≡ free 7 0) where
   )
 
 pub example_runs : ExampleRuns
-example_runs a made = (free_again a made 3, runs a made)
+example_runs = record { runs = λ a made. (free_again a made 3, runs a made) }

@@ -44,7 +44,7 @@ module _ (n : Numbers) where
       let serial : m.serial ≡ n.serial = (are_these m its).1 in
       ⊎_elim (λ later. omega (arith, later, serial, h.serial)) (λ none. both_ways (is_free w.phase) h.busy none.1) gone.past
 
-  pub not_holder : (w : Work) → Gone n w → is_holder w n ≡ true → ⊥
+  not_holder : (w : Work) → Gone n w → is_holder w n ≡ true → ⊥
   not_holder w gone so = not_holders w n gone (holder_held w n so) (these n refl)
 
   pub not_held_by : (w : Work) → Gone n w → held_by w n.serial ≡ true → ⊥
@@ -117,10 +117,10 @@ module _ (n : Numbers) {d : Call} {a a' : Area} where
   held_part p = held_onward n a a' (part_onward p)
 
   -- a beginning ends one that holds the area, and so does what frees it
-  pub begin_ends : Begins d a a' → Held n (said a) → Gone n (said a')
+  begin_ends : Begins d a a' → Held n (said a) → Gone n (said a')
   begin_ends b held = begun_gone n a a' b.event b.handed b.claim b.does held.number (omega (arith, held.serial))
 
-  pub end_ends : Ends d a a' → Held n (said a) → Gone n (said a')
+  end_ends : Ends d a a' → Held n (said a) → Gone n (said a')
   end_ends e held = record { number = ap (λ (x : Work). x.number) e.freed ∙ held.number; past = inr (ap (λ (x : Work). x.serial) e.freed ∙ held.serial, ap (λ (x : Work). is_free x.phase) e.freed) }
 
   -- one that holds the area holds it on, or ends
@@ -175,7 +175,7 @@ module _ (n : Numbers) (P : Area → Type 0) where
 
 module _ (n : Numbers) where
   -- ended once, ended for all calls
-  pub run_gone : (cs : List Call) (a now : Area) → Runs cs a now → Gone n (said a) → Gone n (said now)
+  run_gone : (cs : List Call) (a now : Area) → Runs cs a now → Gone n (said a) → Gone n (said now)
   run_gone [] a now runs gone = subst (λ (x : Area). Gone n (said x)) (sym runs) gone
   run_gone (d ∷ cs) a now runs gone = run_gone cs runs.0 now runs.2 (gone_on n (effect d a runs.0 runs.1) gone)
 

@@ -5,6 +5,7 @@ pub mod Example
 pub mod Histories
 pub mod Holders
 pub mod Marked
+pub mod MarkedSets
 pub mod Ousting
 pub mod Permits
 pub mod Tallies

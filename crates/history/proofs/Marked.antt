@@ -1,19 +1,14 @@
--- The marked cases, shown. Assumes nothing.
-use Rattle.std.proofs.Common.{◌≡◌, ℕ, zero, suc, ◌+◌, ◌-◌, ◌<◌, ◌≤◌, Bool, true, false, cond, not, ◌&&◌, ltb, inl, inr, List, [], ◌∷◌, Some, None, Ok, Err, Decides, sym, refl, ap, ◌∙◌, subst, ⊎_elim, lit<, arith}
-use Rattle.std.proofs.lemmas.Bool.{both_ways, cases_lt, cond-true, cond-false, le-ltb, lt-ltb, false≢true, and_left, and_right}
-use Rattle.std.proofs.lemmas.Bool.Decides.{nat_tests}
+-- The marked cases, shown: what U, V and W accept, what comparing two of them comes to, and its documents.
+-- Assumes nothing.
+use Rattle.std.proofs.Common.{◌≡◌, ℕ, zero, suc, ◌≤◌, Bool, true, false, ltb, inl, inr, List, [], ◌∷◌, Some, None, Decides, sym, refl, ap, ◌∙◌, subst, ⊎_elim, lit<, arith}
+use Rattle.std.proofs.lemmas.Bool.{both_ways, cond-false, le-ltb, false≢true}
 use Rattle.std.proofs.lemmas.Option.{none-some, same_Some}
 use Rattle.codec.specs.Trees.{node, none, child}
-use Rattle.domain.specs.Kinds.{has_keyword, has_letter}
-use Rattle.domain.specs.declared.coverage.Range.{Range}
-use Rattle.domain.specs.Making.{coverage_of, at, Follows, Makes}
-use Rattle.domain.specs.Sets.{Smallest, alone}
+use Rattle.domain.specs.Sets.{Smallest}
 use Rattle.refusal.specs.declared.fault.Fault.TheVariants as fault
-use Rattle.refusal.specs.declared.fault.Refusal.{Refusal}
 use Rattle.schema.specs.Automata.{Automaton, allowed}
 use Rattle.schema.specs.Live.{Live, LiveSequence, LiveSymbol}
 use Rattle.schema.specs.Tables.{Tables}
-use Rattle.schema.proofs.Members.{bit_zero}
 use Rattle.schema.proofs.Dead.{leads_back_dead}
 use Rattle.schema.proofs.Onward.{live_leads}
 use Rattle.schema.proofs.Sound.{sound}
@@ -33,14 +28,12 @@ use Rattle.compare.specs.Work.{Work, start, begun}
 use Rattle.compare.proofs.Outcomes.{same_decision}
 use Rattle.compare.proofs.Turned.{one_stepped}
 use Rattle.document.specs.Samples.{LowerSequence, Sample}
-use Rattle.history.specs.Marked.{zero_alone, U, V, W, over_zero, Compares, ComesTo, DocumentBytes, just_letters, from_to, touching_ranges, parted_ranges, IsRefusal, MarkedCases}
+use Rattle.history.proofs.MarkedSets.{joint_gap, touching_refused, parted_taken}
+use Rattle.history.specs.Marked.{zero_alone, U, V, W, over_zero, Compares, ComesTo, DocumentBytes, MarkedCases}
 
--- each of the three state's domains has 0 as its least value
-least_U : Smallest ((over_zero U).has 0) (Some 0)
-least_U = record { value = lit< tt; passes = refl; before = λ v low. absurd (omega (arith, low)) }
-
-least_V : Smallest ((over_zero V).has 0) (Some 0)
-least_V = record { value = lit< tt; passes = refl; before = λ v low. absurd (omega (arith, low)) }
+-- the least value of each state is 0
+least_zero : Smallest ((over_zero U).has 0) (Some 0)
+least_zero = record { value = lit< tt; passes = refl; before = λ v low. absurd (omega (arith, low)) }
 
 -- no symbol past the symbols has a next state
 beyond : (T : Tables) (a : ℕ) → T.symbols ≤ a → (over_zero T).next 0 a ≡ None
@@ -75,11 +68,11 @@ just_empty [] live = refl
 just_empty (a ∷ w) live = absurd (none-some _ (sym (nowhere a) ∙ live.1.0.1))
 
 -- the sequence of symbol 0 is live at V
-pub one_child : LiveSequence (over_zero V) 0 (0 ∷ [])
+one_child : LiveSequence (over_zero V) 0 (0 ∷ [])
 one_child = (refl, ((0, refl, alone_V), tt))
 
 -- and it is the first of those that U does not allow
-pub first_refused : First (λ u. LiveSequence (over_zero V) 0 u × (allowed (over_zero U) 0 u ≡ false)) (0 ∷ [])
+first_refused : First (λ u. LiveSequence (over_zero V) 0 u × (allowed (over_zero U) 0 u ≡ false)) (0 ∷ [])
 first_refused = record { passes = (one_child, refl); least = least }
   where
     least : (v : List ℕ) → LiveSequence (over_zero V) 0 v × (allowed (over_zero U) 0 v ≡ false) → NoLater (0 ∷ []) v
@@ -97,13 +90,13 @@ empty_first P is = record { passes = is; least = least }
 
 -- a node alone is the sample of V's state
 sample_V : Sample (over_zero V) 0 (node 0 none)
-sample_V = (least_V, empty_first (LowerSequence (over_zero V) 0) (refl, tt), tt)
+sample_V = (least_zero, empty_first (LowerSequence (over_zero V) 0) (refl, tt), tt)
 
 pub v_u_document : DocumentBytes V U (0 ∷ 1 ∷ 0 ∷ 0 ∷ 0 ∷ [])
 v_u_document =
     record {
       tree = node 0 (child 0 (node 0 none) none);
-      document = record { first = start; listed = refl; starts = (refl, refl); leads = refl; built = ((least_V, first_refused), ((0, refl, sample_V), tt)) };
+      document = record { first = start; listed = refl; starts = (refl, refl); leads = refl; built = ((least_zero, first_refused), ((0, refl, sample_V), tt)) };
       written = refl;
     }
 
@@ -111,7 +104,7 @@ u_w_document : DocumentBytes U W (0 ∷ 0 ∷ [])
 u_w_document =
     record {
       tree = node 0 none;
-      document = record { first = start; listed = refl; starts = (refl, refl); leads = refl; built = ((least_U, empty_first (λ u. LiveSequence (over_zero U) 0 u × (allowed (over_zero W) 0 u ≡ false)) ((refl, tt), refl)), tt) };
+      document = record { first = start; listed = refl; starts = (refl, refl); leads = refl; built = ((least_zero, empty_first (λ u. LiveSequence (over_zero U) 0 u × (allowed (over_zero W) 0 u ≡ false)) ((refl, tt), refl)), tt) };
       written = refl;
     }
 
@@ -199,69 +192,6 @@ w_u : ComesTo W U Included 0
 w_u =
     settled W U false Included 0 (λ no. absurd (false≢true no), λ live. absurd (dead_W live))
     (λ w. record { after = begun w W U false; stepped = record { taken = 0; few = omega arith; turns = refl; until = λ still. absurd (false≢true (ap is_running still)) }; verdict = refl; count = refl; kind = λ j k apart last. not_apart j k apart })
-
--- the code points of a range
-abbrev letters : Range → ℕ → Bool
-letters range = has_letter (coverage_of (range ∷ []))
-
--- the gap of two joint domains with nothing on the left: that of the letters, on the right
-joint_gap : Smallest (alone (just_letters (from_to 65 90)) (just_letters (from_to 65 89))) (Some 2147483738)
-joint_gap = record { value = lit< tt; passes = refl; before = before }
-  where
-    -- below the middle nothing is in the first
-    left : (v : ℕ) → v < 2147483648 → just_letters (from_to 65 90) v ≡ false
-    left v low = cond-true (ltb v 2147483648) _ _ (lt-ltb v 2147483648 low) ∙ and_right (ltb v 64) _ (bit_zero v)
-
-    -- from there on, what is before the gap is in both or in none
-    right : (x : ℕ) → x < 90 → (letters (from_to 65 90) x && not (letters (from_to 65 89) x)) ≡ false
-    right x low = grind (arith, nat_tests)
-
-    before : (v : ℕ) → v < 2147483738 → alone (just_letters (from_to 65 90)) (just_letters (from_to 65 89)) v ≡ false
-    before v low =
-        ⊎_elim
-        (λ small. and_left _ _ (left v small))
-        (λ large.
-        let at = le-ltb v 2147483648 large in
-        ap (λ (t : Bool). cond t (has_keyword (record { bits = 0 }) v) (letters (from_to 65 90) (v - 2147483648)) && not (cond t (has_keyword (record { bits = 0 }) v) (letters (from_to 65 89) (v - 2147483648)))) at
-        ∙ right (v - 2147483648) (omega (arith, low, large)))
-        (cases_lt v 2147483648)
-
--- each range of two passes a test that both pass
-each_of_two : (test : ℕ → Type 0) → test 0 → test 1 → (i : ℕ) → i < 2 → test i
-each_of_two test first second zero low = first
-each_of_two test first second (suc zero) low = second
-each_of_two test first second (suc (suc i)) low = absurd (omega (arith, low))
-
-touching_refused : (e : Refusal) × Makes touching_ranges (Err e) × IsRefusal 5 1 e
-touching_refused = (record { fault = fault.Range; place = 1 }, inr (lit< tt, record { listed = lit< tt; before = before; broken = broken }, refl), (refl, refl))
-  where
-    before : Follows touching_ranges 1
-    before =
-        record {
-          ordered = λ i low. each_of_two (λ j. (at touching_ranges j).first ≤ (at touching_ranges j).last) (omega arith) (omega arith) i (omega (arith, low));
-          inside = λ i low. each_of_two (λ j. (at touching_ranges j).last ≤ 1114111) (omega arith) (omega arith) i (omega (arith, low));
-          apart = λ i j earlier low. absurd (omega (arith, earlier, low));
-        }
-
-    broken : Follows touching_ranges 2 → ⊥
-    broken f = absurd (omega (arith, f.apart 0 1 (lit< tt) (lit< tt)))
-
-parted_taken : Makes parted_ranges (Ok (coverage_of parted_ranges))
-parted_taken = record { few = omega arith; rule = rule; uses = refl; whole = refl }
-  where
-    rule : Follows parted_ranges 2
-    rule =
-        record {
-          ordered = each_of_two (λ j. (at parted_ranges j).first ≤ (at parted_ranges j).last) (omega arith) (omega arith);
-          inside = each_of_two (λ j. (at parted_ranges j).last ≤ 1114111) (omega arith) (omega arith);
-          apart = λ i j earlier low. by i j earlier low;
-        }
-      where
-        by : (i j : ℕ) → i < j → j < 2 → (at parted_ranges i).last + 1 < (at parted_ranges j).first
-        by zero zero earlier low = absurd (omega (arith, earlier))
-        by zero (suc zero) earlier low = omega arith
-        by zero (suc (suc j)) earlier low = absurd (omega (arith, low))
-        by (suc i) j earlier low = absurd (omega (arith, earlier, low))
 
 pub marked_cases : MarkedCases
 marked_cases =

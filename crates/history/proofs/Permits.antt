@@ -64,7 +64,7 @@ module _ (w : Work) (n : Numbers) where
       record { number = sym (eqb-true n.area w.number near.0); serial = sym (eqb-true n.serial w.serial held.1); busy = not-true _ held.0 }
 
   -- and its claim is the holder where it holds the area
-  pub held_by_held : Held n w → held_by w n.serial ≡ true
+  held_by_held : Held n w → held_by w n.serial ≡ true
   held_by_held held = and_from _ _ (not_from_false _ held.busy) (eq-eqb n.serial w.serial (sym held.serial))
 
   pub held_holder : Held n w → is_holder w n ≡ true

@@ -51,5 +51,5 @@ example =
     ∷ []
 
 -- the example is a history of area 7, as it is when made
-abbrev pub ExampleRuns : Type 0
-ExampleRuns = (a : Area) → said a ≡ free 7 0 → (last : Area) × Runs example a last
+pub record ExampleRuns : Type 0 where
+  pub runs : (a : Area) → said a ≡ free 7 0 → (last : Area) × Runs example a last

@@ -8,7 +8,7 @@ ghost use Rattle.history.specs.Marked.{MarkedCases};
 use compare::area::{Area, free_area};
 
 /// A free area with that number, its serial 0.
-#[tactic(auto, using(crate::proofs::Histories::every_history, crate::proofs::Marked::marked_cases))]
+#[tactic(auto, using(crate::proofs::Histories::every_history, crate::proofs::Marked::marked_cases, crate::proofs::Example::example_runs))]
 pub fn open(number: u32) -> Area
     ensures fresh { said result ≡ free number 0 }
     ensures histories { EveryHistory result }
