@@ -3,7 +3,7 @@ use Rattle.std.specs.Prelude.{ℕ, ◌+◌, ◌*◌, Bool, false, cond, not, ◌
 use Rattle.std.specs.Option.{option_map}
 use Rattle.refusal.specs.Order.{first_of}
 use Rattle.refusal.specs.declared.fault.Fault.{Fault}
-use Rattle.refusal.specs.declared.fault.Fault.TheVariants.{Size, State, Row, Domain, Range, Symbols, Busy, Worn, Foreign, Ousted, Schemas, Steps, Early, Scratch, Short, Number, Symbol, Deep, Rest, Room, Nothing}
+use Rattle.refusal.specs.declared.fault.Fault.TheVariants.{Size, State, Row, Domain}
 use Rattle.refusal.specs.declared.fault.Refusal.{Refusal}
 use Rattle.schema.specs.Below.{some_below, lowest}
 use Rattle.schema.specs.Tables.{Tables, transition_byte, domain_number, row_count, first_row, end_mark, row_byte}
@@ -58,24 +58,7 @@ module _ (T : Tables) where
   wrong_at State q = state_wrong q
   wrong_at Row q = row_wrong q
   wrong_at Domain q = domain_wrong q
-  wrong_at Size q = false
-  wrong_at Range q = false
-  wrong_at Symbols q = false
-  wrong_at Busy q = false
-  wrong_at Worn q = false
-  wrong_at Foreign q = false
-  wrong_at Ousted q = false
-  wrong_at Schemas q = false
-  wrong_at Steps q = false
-  wrong_at Early q = false
-  wrong_at Scratch q = false
-  wrong_at Short q = false
-  wrong_at Number q = false
-  wrong_at Symbol q = false
-  wrong_at Deep q = false
-  wrong_at Rest q = false
-  wrong_at Room q = false
-  wrong_at Nothing q = false
+  wrong_at _ q = false
 
   -- a fault of states has the lowest state that has it as its place
   abbrev pub at_lowest : Fault → Option Refusal

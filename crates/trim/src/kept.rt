@@ -1,6 +1,6 @@
 //! Which states are kept: those that live symbols lead to from the start.
 ghost use Rattle.std.specs.Prelude.{◌≡◌, ℕ, true, if◌then◌else◌, None, Decides};
-ghost use Rattle.domain.specs.Kinds.{bit};
+ghost use Rattle.bits.specs.Bits.{bit};
 ghost use Rattle.schema.specs.Live.{LiveMask};
 ghost use Rattle.schema.specs.Permitted.{permit};
 ghost use Rattle.schema.specs.Rows.{AfterEdge};
@@ -8,8 +8,9 @@ ghost use Rattle.schema.specs.Tables.{automaton_of};
 ghost use Rattle.trim.specs.Kept.{Kept, LedTo};
 
 use domain::domain::Domain;
-use domain::keywords::lowest_alone;
-use schema::sets::{gather_onto, has_member, with_member};
+use bits::sets::lowest_alone;
+use bits::gathering::gather_onto;
+use bits::sets::{has_member, with_member};
 use schema::tested::Tested;
 
 /// The state that a schema starts from.
