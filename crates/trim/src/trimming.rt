@@ -6,10 +6,10 @@ ghost use Rattle.trim.specs.Outcome.{NothingLeft};
 ghost use Rattle.trim.specs.Trimming.{TrimmingOf, tables_of, kept_of, number_of, rows_before_of, stays_of, new_transition_of, new_entry_of, trimmed_of};
 
 use crate::kept::{START, kept_states};
+use bits::sets::{has_member, members_below};
 use domain::domain::Domain;
 use refusal::fault::{Fault, Refusal};
 use schema::faults::NONE;
-use bits::sets::{has_member, members_below};
 use schema::tables::STATE_BYTES;
 use schema::tested::Tested;
 
