@@ -21,10 +21,10 @@ use Rattle.compare.specs.declared.phase.Verdict.TheVariants as verdict
 use Rattle.compare.specs.Beginning.{Beginning}
 use Rattle.compare.specs.Breaking.{Broken, Unbroken, ToldApart}
 use Rattle.compare.specs.Concluding.{Conclusion}
-use Rattle.compare.specs.Pairs.{listed}
+use Rattle.compare.specs.Pairs.{start, listed}
 use Rattle.compare.specs.Stepping.{Stepping}
 use Rattle.compare.specs.Trailing.{Trail}
-use Rattle.compare.specs.Work.{Work, said, start}
+use Rattle.compare.specs.Work.{Work, said}
 
 -- the symbols lead from one state to another
 abbrev pub Path : Automaton → ℕ → List ℕ → ℕ → Type 0
