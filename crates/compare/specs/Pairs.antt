@@ -36,11 +36,13 @@ listed (e ∷ es) p q = is_of p q e || listed es p q
 abbrev pub with_pair : List Listed → Listed → List Listed
 with_pair es e = cond (listed es e.first e.second) es (es ++ e ∷ [])
 
--- an entry can stand at place i: its states lie inside the two counts, and the pair that led to it stands earlier; the first was led to by none
+-- an entry can stand at place i: its states lie inside the two counts, and the pair that led to it stands
+-- earlier; the first was led to by none
 abbrev pub fits : ℕ → ℕ → ℕ → Listed → Bool
 fits n m i e = (nat_lt e.first n && nat_lt e.second m) && (i == 0 || nat_lt e.parent i)
 
--- what listing a pair leaves: where it can stand behind the others, the list with it, and else the list as it was
+-- what listing a pair leaves: where it can stand behind the others, the list with it, and else the list as
+-- it was
 abbrev pub after_listing : ℕ → ℕ → List Listed → Listed → List Listed
 after_listing n m es e = cond (fits n m (length es) e) (with_pair es e) es
 
@@ -57,11 +59,13 @@ unfoldable pub bits_say : List ℕ → List Listed → Bool
 bits_say bits es =
     length bits == STATES
     && all_below STATES (λ p.
-    nat_lt (slice_index bits p) (2 ^ 64) && all_below STATES (λ q. agree (bit (slice_index bits p) q) (listed es p q)))
+    nat_lt (slice_index bits p) (2 ^ 64)
+    && all_below STATES (λ q. agree (bit (slice_index bits p) q) (listed es p q)))
 
 -- from place k on every slot is blank
 unfoldable pub blank_from : ℕ → List Listed → Bool
-blank_from k slots = length slots == PLACES && all_below PLACES (λ i. nat_lt i k || is_blank (slice_index_or slots i start))
+blank_from k slots =
+    length slots == PLACES && all_below PLACES (λ i. nat_lt i k || is_blank (slice_index_or slots i start))
 
 -- what is kept at every moment, for n states of the first schema, m of the second, and k entries
 unfoldable pub kept_pairs : ℕ → ℕ → List Listed → ℕ → List ℕ → Bool

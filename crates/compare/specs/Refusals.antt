@@ -66,7 +66,8 @@ short_scratch slots = cond (nat_lt slots ROW_PAIRS) (Some (record { fault = Scra
 abbrev pub other_serial : Work → ℕ → Option Refusal
 other_serial w serial = where_found (not (serial == w.serial)) w Ousted
 
--- the test of the holder: the numbers are of another area or have another serial, or there is no holder in this phase
+-- the test of the holder: the numbers are of another area or have another serial, or there is no holder in
+-- this phase
 abbrev pub holder_refusal : Work → Numbers → Option Refusal
 holder_refusal w n = first_of (of_another w n.area ∷ other_serial w n.serial ∷ phase_refuses w Hold ∷ [])
 
