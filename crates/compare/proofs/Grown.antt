@@ -17,10 +17,10 @@ use Rattle.compare.specs.declared.phase.Phase.TheVariants as phase
 use Rattle.compare.specs.declared.phase.Verdict.TheVariants as verdict
 use Rattle.compare.specs.Breaking.{Broken, Unbroken, Closed, ToldApart}
 use Rattle.compare.specs.Growing.{Path, SameAutomata, settled, Reached, Rooted, Passed, LastBroken, Stands, Grown, BeginsGrown, StepsGrown, ConcludesGrown, GrownSame, IncludedCarries, ApartTells}
-use Rattle.compare.specs.Pairs.{blank, listed}
+use Rattle.compare.specs.Pairs.{start, listed}
 use Rattle.compare.specs.Stepping.{with_nexts, examined_to, going_on, Turn, Turns, step_kept_from}
 use Rattle.compare.specs.Trailing.{broken_index}
-use Rattle.compare.specs.Work.{Work, said, start, begun}
+use Rattle.compare.specs.Work.{Work, said, begun}
 use Rattle.compare.proofs.Allowing.{allows}
 use Rattle.compare.proofs.Closed.{closed_carries}
 use Rattle.compare.proofs.Goings.{none_left, one_left}
@@ -175,8 +175,8 @@ module _ (A B : Automaton) where
       pair : (p q : ℕ) → listed es p q ≡ true → Says es p q
       pair p q there =
           let at = listed_tells es p q there in
-          let passed = each at.0 (get_or es at.0 blank) (slice_get-get_or es at.0 blank at.1) in
-          subst (λ (r : ℕ). Says es r q) at.2 (subst (Says es (get_or es at.0 blank).first) at.3 (passed.unbroken, passed.onward))
+          let passed = each at.0 (get_or es at.0 start) (slice_get-get_or es at.0 start at.1) in
+          subst (λ (r : ℕ). Says es r q) at.2 (subst (Says es (get_or es at.0 start).first) at.3 (passed.unbroken, passed.onward))
 
   live_along : (w : List ℕ) (p s : ℕ) → Live A p → LivePath A p w s → Live A s
   live_along [] p s live path = subst (Live A) path live

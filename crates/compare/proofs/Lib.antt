@@ -8,6 +8,7 @@ pub mod Goings
 pub mod Grown
 pub mod Growing
 pub mod Keeping
+pub mod Laws
 pub mod Nexts
 pub mod Outcomes
 pub mod Sought

@@ -25,10 +25,12 @@ use Rattle.compare.specs.Work.{said, free, in_phase}
 
 -- a comparison is begun where the table begins one, and nowhere else
 unfoldable pub BeginsAsDecided : Event → Type 0
-BeginsAsDecided e = (T U : Tables) (sets : List (ℕ → Bool)) (a : Area) (claim : Lease Comparing) (a' : Area) → Beginning e T U sets a (Ok claim) a' → decided a.phase e ≡ Begin
+BeginsAsDecided e =
+    (T U : Tables) (sets : List (ℕ → Bool)) (a : Area) (claim : Lease Comparing) (a' : Area)
+    → Beginning e T U sets a (Ok claim) a' → decided a.phase e ≡ Begin
 
--- what an accepted step does by a decision: it examines, in one turn at least; or the area stays as it was, and 0 pairs and a standing verdict
--- are answered
+-- what an accepted step does by a decision: it examines, in one turn at least; or the area stays as it was,
+-- and 0 pairs and a standing verdict are answered
 abbrev pub StepsBy : Automaton → Automaton → Decision → Area → ℕ × ℕ → Area → Type 0
 StepsBy A B Examine a answer a' = (k : ℕ) × Turns A B (suc k) (said a) (said a')
 StepsBy A B Stay a answer a' = (answer ≡ (0, 1)) × (a' ≡ a)
@@ -36,10 +38,13 @@ StepsBy A B d a answer a' = ⊥
 
 -- an accepted step does what the table decides
 unfoldable pub StepsAsDecided : Type 0
-StepsAsDecided = (T U : Tables) (sets others : List (ℕ → Bool)) (claim : Numbers) (n slots : ℕ) (a : Area) (answer : ℕ × ℕ) (a' : Area) → Stepping T U sets others claim n slots a (Ok answer) a' → StepsBy (automaton T sets) (automaton U others) (decided a.phase Step) a answer a'
+StepsAsDecided =
+    (T U : Tables) (sets others : List (ℕ → Bool)) (claim : Numbers) (n slots : ℕ) (a : Area) (answer : ℕ × ℕ) (a' : Area)
+    → Stepping T U sets others claim n slots a (Ok answer) a'
+    → StepsBy (automaton T sets) (automaton U others) (decided a.phase Step) a answer a'
 
--- what an accepted conclusion comes to by a decision: released, it is included, and the area is free; parted by a kind, it is apart by that
--- kind, and so is the area
+-- what an accepted conclusion comes to by a decision: released, it is included, and the area is free;
+-- parted by a kind, it is apart by that kind, and so is the area
 abbrev pub ConcludesBy : Decision → Area → Concluded → Area → Type 0
 ConcludesBy Release a (Included n) a' = said a' ≡ free a.number a.serial
 ConcludesBy (Part k) a (Apart l n claim) a' = (l ≡ k) × (said a' ≡ in_phase (said a) (phase.Apart k))
@@ -47,7 +52,9 @@ ConcludesBy d a c a' = ⊥
 
 -- an accepted conclusion comes to what the table decides
 unfoldable pub ConcludesAsDecided : Type 0
-ConcludesAsDecided = (a : Area) (claim : Lease Comparing) (c : Concluded) (a' : Area) → Conclusion a claim (Ok c) a' → ConcludesBy (decided a.phase Conclude) a c a'
+ConcludesAsDecided =
+    (a : Area) (claim : Lease Comparing) (c : Concluded) (a' : Area) → Conclusion a claim (Ok c) a'
+    → ConcludesBy (decided a.phase Conclude) a c a'
 
 -- a trail is written where the table lets the area stay, and nowhere else
 unfoldable pub TrailsAsDecided : Type 0
@@ -55,8 +62,8 @@ TrailsAsDecided =
     (a : Area) (claim : Numbers) (output : List ℕ) (n : ℕ) (output' : List ℕ) →
     Trailing a claim output (Ok n) output' → decided a.phase Write ≡ Stay
 
--- what giving up a claim with that serial does by a decision: released, the area is free and 1 is answered, where the serial is the area's; and
--- else it stays as it was, and 0 is answered
+-- what giving up a claim with that serial does by a decision: released, the area is free and 1 is answered,
+-- where the serial is the area's; and else it stays as it was, and 0 is answered
 abbrev pub GivesUpBy : Decision → Area → ℕ → ℕ → Area → Type 0
 GivesUpBy Release a serial n a' = cond (serial == a.serial) ((n ≡ 1) × (said a' ≡ free a.number a.serial)) ((n ≡ 0) × (a' ≡ a))
 GivesUpBy Stay a serial n a' = (n ≡ 0) × (a' ≡ a)
@@ -76,4 +83,7 @@ TrailNotEarly =
 
 -- a conclusion meets `early` in an area that runs or is apart, and in no other
 unfoldable pub ConclusionEarly : Type 0
-ConclusionEarly = (a : Area) (claim : Lease Comparing) (e : Refusal × Lease Comparing) (a' : Area) → Conclusion a claim (Err e) a' → e.0.fault ≡ Early → (a.phase ≡ phase.Running) ⊎ ((k : Kind) × (a.phase ≡ phase.Apart k))
+ConclusionEarly =
+    (a : Area) (claim : Lease Comparing) (e : Refusal × Lease Comparing) (a' : Area)
+    → Conclusion a claim (Err e) a' → e.0.fault ≡ Early
+    → (a.phase ≡ phase.Running) ⊎ ((k : Kind) × (a.phase ≡ phase.Apart k))

@@ -15,11 +15,14 @@ FewPairs = (p : Pairs) → length (entries_of p) ≤ p.firsts * p.seconds
 
 -- each entry's states lie inside the counts, and the pair that led to it stands earlier
 abbrev pub EntriesFit : Type 0
-EntriesFit = (p : Pairs) (i : ℕ) (e : Listed) → slice_get (entries_of p) i ≡ Some e → Fits p.firsts p.seconds i e
+EntriesFit =
+    (p : Pairs) (i : ℕ) (e : Listed) → slice_get (entries_of p) i ≡ Some e → Fits p.firsts p.seconds i e
 
 -- no pair is listed twice: entries with the same states stand at one place
 abbrev pub ListedOnce : Type 0
-ListedOnce = (p : Pairs) (i j : ℕ) (e f : Listed) → slice_get (entries_of p) i ≡ Some e → slice_get (entries_of p) j ≡ Some f → e.first ≡ f.first → e.second ≡ f.second → i ≡ j
+ListedOnce =
+    (p : Pairs) (i j : ℕ) (e f : Listed) → slice_get (entries_of p) i ≡ Some e
+    → slice_get (entries_of p) j ≡ Some f → e.first ≡ f.first → e.second ≡ f.second → i ≡ j
 
 -- the counts and the listed entries say all: nothing else stays of what was listed before
 abbrev pub Determined : Type 0

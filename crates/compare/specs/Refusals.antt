@@ -5,11 +5,14 @@ use Rattle.refusal.specs.declared.fault.Fault.TheVariants.{Symbols, Worn, Foreig
 use Rattle.refusal.specs.declared.fault.Refusal.{Refusal}
 use Rattle.refusal.specs.Order.{first_of}
 use Rattle.schema.specs.Tables.{Tables}
+use Rattle.search.specs.declared.pairs.TheConstants.{ROW_PAIRS}
+use Rattle.compare.specs.declared.area.TheConstants.{LAST_SERIAL}
 use Rattle.compare.specs.declared.claim.Numbers.{Numbers}
 use Rattle.compare.specs.declared.event.Decision.{Decision}
 use Rattle.compare.specs.declared.event.Decision.TheVariants.{Refuse}
 use Rattle.compare.specs.declared.event.Event.{Event}
 use Rattle.compare.specs.declared.event.Event.TheVariants.{Hold}
+use Rattle.compare.specs.declared.step.TheConstants.{MOST_STEPS}
 use Rattle.compare.specs.Phases.{decided}
 use Rattle.compare.specs.Work.{Work}
 
@@ -37,29 +40,34 @@ phase_refuses w e = by_phase w (decided w.phase e)
 
 -- `worn`: the serial can't be raised
 abbrev pub worn_out : Work → Option Refusal
-worn_out w = where_found (w.serial == 4294967295) w Worn
+worn_out w = where_found (w.serial == LAST_SERIAL) w Worn
 
 -- `foreign`: the claim is of another area
 abbrev pub of_another : Work → ℕ → Option Refusal
 of_another w number = where_found (not (number == w.number)) w Foreign
 
+-- the symbol count and the two state counts are those noted
+abbrev pub same_counts : Work → Tables → Tables → Bool
+same_counts w T U = w.symbols == T.symbols && (w.firsts == T.states && w.seconds == U.states)
+
 -- `schemas`: the symbol count or a state count is not the one noted
 abbrev pub other_counts : Work → Tables → Tables → Option Refusal
-other_counts w T U = where_found (not (w.symbols == T.symbols && (w.firsts == T.states && w.seconds == U.states))) w Schemas
+other_counts w T U = where_found (not (same_counts w T U)) w Schemas
 
--- `steps`: none or more than 4,096 are asked for
+-- `steps`: none are asked for, or too many
 abbrev pub wrong_steps : Work → ℕ → Option Refusal
-wrong_steps w n = where_found (n == 0 || nat_lt 4096 n) w Steps
+wrong_steps w n = where_found (n == 0 || nat_lt MOST_STEPS n) w Steps
 
--- `scratch`: fewer than 272 row pairs are lent, which is its place
+-- `scratch`: too few row pairs are lent; its place is how many are needed
 abbrev pub short_scratch : ℕ → Option Refusal
-short_scratch slots = cond (nat_lt slots 272) (Some (record { fault = Scratch; place = 272 })) None
+short_scratch slots = cond (nat_lt slots ROW_PAIRS) (Some (record { fault = Scratch; place = ROW_PAIRS })) None
 
 -- `ousted`: the claim has another serial
 abbrev pub other_serial : Work → ℕ → Option Refusal
 other_serial w serial = where_found (not (serial == w.serial)) w Ousted
 
--- the test of the holder: the numbers are of another area or have another serial, or there is no holder in this phase
+-- the test of the holder: the numbers are of another area or have another serial, or there is no holder in
+-- this phase
 abbrev pub holder_refusal : Work → Numbers → Option Refusal
 holder_refusal w n = first_of (of_another w n.area ∷ other_serial w n.serial ∷ phase_refuses w Hold ∷ [])
 

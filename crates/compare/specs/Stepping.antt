@@ -19,7 +19,8 @@ use Rattle.compare.specs.Pairs.{with_pair}
 use Rattle.compare.specs.Refusals.{held_kept_from, wrong_steps, short_scratch}
 use Rattle.compare.specs.Work.{Work, said, in_phase}
 
--- the pair of two next states, where both are there and the symbol is live; i is the place of the pair that led to it
+-- the pair of two next states, where both are there and the symbol is live; i is the place of the pair that
+-- led to it
 abbrev pub next_pair : ℕ → ℕ → Bool → Option ℕ → Option ℕ → Option Listed
 next_pair i a true (Some s) (Some u) = Some (record { first = s; second = u; parent = i; symbol = a })
 next_pair i a true (Some s) None = None
@@ -36,7 +37,8 @@ abbrev pub with_next : ℕ → ℕ → Bool → Option ℕ → Option ℕ → Li
 with_next i a live s u es = with_found (next_pair i a live s u) es
 
 module _ (A B : Automaton) where
-  -- the list with the pairs of next states of (p, q) under the live symbols below n, ascending; (p, q) is at place i
+  -- the list with the pairs of next states of (p, q) under the live symbols below n, ascending; (p, q) is
+  -- at place i
   abbrev pub with_nexts : (ℕ → Bool) → ℕ → ℕ → ℕ → ℕ → List Listed → List Listed
   with_nexts live p q i zero es = es
   with_nexts live p q i (suc a) es = with_next i a (live a) (A.next p a) (B.next q a) (with_nexts live p q i a es)
@@ -58,18 +60,23 @@ module _ (A B : Automaton) where
   pub record GoesOn (w : Work) (pair : Listed) (i : ℕ) (w' : Work) : Type 0 where
     pub live : ℕ → Bool
     pub exact : (a : ℕ) → Decides (live a) (LiveSymbol A pair.first a)
-    pub after : w' ≡ listed_to w (with_nexts A B live pair.first pair.second i w.symbols w.pairs) (going_on (i + 1) (with_nexts A B live pair.first pair.second i w.symbols w.pairs))
+    pub after : w'
+        ≡ listed_to w (with_nexts A B live pair.first pair.second i w.symbols w.pairs) (going_on (i + 1) (with_nexts A B live pair.first pair.second i w.symbols w.pairs))
 
-  -- the next pair in the list is examined: a broken one makes the area ready with apart; an unbroken one lists its pairs of next states, and
-  -- where no pair is left to examine the area is ready with included
+  -- the next pair in the list is examined: a broken one makes the area ready with apart; an unbroken one
+  -- lists its pairs of next states, and where no pair is left to examine the area is ready with included
   pub record Examines (w w' : Work) : Type 0 where
     pub pair : Listed
     pub at : slice_get w.pairs w.examined ≡ Some pair
-    pub outcome : ((k : Kind) × Broken A B k pair.first pair.second × (w' ≡ examined_to w w.pairs (phase.Ready (verdict.Apart k)))) ⊎ (Unbroken A B pair.first pair.second × ((live : ℕ → Bool) × ((a : ℕ) → Decides (live a) (LiveSymbol A pair.first a)) × (w' ≡ examined_to w (with_nexts A B live pair.first pair.second w.examined w.symbols w.pairs) (going_on (w.examined + 1) (with_nexts A B live pair.first pair.second w.examined w.symbols w.pairs)))))
+    pub outcome :
+        ((k : Kind) × Broken A B k pair.first pair.second × (w' ≡ examined_to w w.pairs (phase.Ready (verdict.Apart k))))
+        ⊎ (Unbroken A B pair.first pair.second × ((live : ℕ → Bool) × ((a : ℕ) → Decides (live a) (LiveSymbol A pair.first a)) × (w' ≡ examined_to w (with_nexts A B live pair.first pair.second w.examined w.symbols w.pairs) (going_on (w.examined + 1) (with_nexts A B live pair.first pair.second w.examined w.symbols w.pairs)))))
 
   -- one turn: the next pair is examined; where none is left, the area is ready with included
   abbrev pub Turn : Work → Work → Type 0
-  Turn w w' = ((slice_get w.pairs w.examined ≡ None) × (w' ≡ in_phase w (phase.Ready verdict.Included))) ⊎ Examines w w'
+  Turn w w' =
+      ((slice_get w.pairs w.examined ≡ None) × (w' ≡ in_phase w (phase.Ready verdict.Included)))
+      ⊎ Examines w w'
 
   -- so many turns, each of a running area
   abbrev pub Turns : ℕ → Work → Work → Type 0
@@ -88,7 +95,8 @@ abbrev pub is_running : Phase → Bool
 is_running phase.Running = true
 is_running p = false
 
--- what keeps sound schemas from a step of the claim with these numbers, which asks for n pairs and lends so many slots
+-- what keeps sound schemas from a step of the claim with these numbers, which asks for n pairs and lends so
+-- many slots
 abbrev pub step_kept_from : Work → Tables → Tables → Numbers → ℕ → ℕ → Option Refusal
 step_kept_from w T U claim n slots = first_of (held_kept_from w T U claim ∷ wrong_steps w n ∷ short_scratch slots ∷ [])
 
@@ -103,6 +111,10 @@ pub record StepsOn (A B : Automaton) (n : ℕ) (w : Work) (answer : ℕ × ℕ) 
   pub mark : answer.1 ≡ cond (is_running w'.phase) 0 1
 
 -- the one outcome: the pairs are examined, or the first refusal leaves the whole area as found
-abbrev pub Stepping : Tables → Tables → List (ℕ → Bool) → List (ℕ → Bool) → Numbers → ℕ → ℕ → Area → Result (ℕ × ℕ) Refusal → Area → Type 0
-Stepping T U sets others claim n slots a (Ok answer) a' = (step_refusal (said a) T U claim n slots ≡ None) × StepsOn (automaton T sets) (automaton U others) n (said a) answer (said a')
-Stepping T U sets others claim n slots a (Err e) a' = (step_refusal (said a) T U claim n slots ≡ Some e) × (a' ≡ a)
+abbrev pub Stepping : Tables → Tables → List (ℕ → Bool) → List (ℕ → Bool) → Numbers → ℕ → ℕ → Area
+    → Result (ℕ × ℕ) Refusal → Area → Type 0
+Stepping T U sets others claim n slots a (Ok answer) a' =
+    (step_refusal (said a) T U claim n slots ≡ None)
+    × StepsOn (automaton T sets) (automaton U others) n (said a) answer (said a')
+Stepping T U sets others claim n slots a (Err e) a' =
+    (step_refusal (said a) T U claim n slots ≡ Some e) × (a' ≡ a)

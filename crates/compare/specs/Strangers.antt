@@ -20,18 +20,26 @@ use Rattle.compare.specs.Work.{Work, said, held_by}
 abbrev pub is_holder : Work → Numbers → Bool
 is_holder w n = n.area == w.number && held_by w n.serial
 
--- the refusal of numbers that are not the holder's: `foreign` where they are of another area, and else `ousted`
+-- the refusal of numbers that are not the holder's: `foreign` where they are of another area, and else
+-- `ousted`
 abbrev pub stranger : Work → Numbers → Refusal
 stranger w n = record { fault = cond (n.area == w.number) Ousted Foreign; place = w.serial }
 
 -- a step is refused: by a fault of the schemas, by `symbols`, or as a stranger's; the area stays as it was
 unfoldable pub StepOfStranger : Type 0
 StepOfStranger =
-    (T U : Tables) (sets others : List (ℕ → Bool)) (claim : Numbers) (n slots : ℕ) (a : Area) (r : Result (ℕ × ℕ) Refusal) (a' : Area) → Stepping T U sets others claim n slots a r a' → is_holder (said a) claim ≡ false → (e : Refusal) × (r ≡ Err e) × (first_of (either_fault T U ∷ other_symbols (said a) T U ∷ Some (stranger (said a) claim) ∷ []) ≡ Some e) × (a' ≡ a)
+    (T U : Tables) (sets others : List (ℕ → Bool)) (claim : Numbers) (n slots : ℕ) (a : Area) (r : Result (ℕ × ℕ) Refusal) (a' : Area)
+    → Stepping T U sets others claim n slots a r a' → is_holder (said a) claim ≡ false → (e : Refusal)
+    × (r ≡ Err e)
+    × (first_of (either_fault T U ∷ other_symbols (said a) T U ∷ Some (stranger (said a) claim) ∷ []) ≡ Some e)
+    × (a' ≡ a)
 
 -- a conclusion is refused, and hands back the claim; the area stays as it was
 unfoldable pub ConclusionOfStranger : Type 0
-ConclusionOfStranger = (a : Area) (claim : Lease Comparing) (r : Result Concluded (Refusal × Lease Comparing)) (a' : Area) → Conclusion a claim r a' → is_holder (said a) claim.numbers ≡ false → (r ≡ Err (stranger (said a) claim.numbers, claim)) × (a' ≡ a)
+ConclusionOfStranger =
+    (a : Area) (claim : Lease Comparing) (r : Result Concluded (Refusal × Lease Comparing)) (a' : Area)
+    → Conclusion a claim r a' → is_holder (said a) claim.numbers ≡ false
+    → (r ≡ Err (stranger (said a) claim.numbers, claim)) × (a' ≡ a)
 
 -- a trail is refused; the output stays as it was
 unfoldable pub TrailOfStranger : Type 0

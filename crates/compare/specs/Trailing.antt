@@ -14,10 +14,12 @@ use Rattle.compare.specs.Concluding.{claim_refusal}
 use Rattle.compare.specs.Listing.{entries_of}
 use Rattle.compare.specs.Work.{Work, said}
 
--- from an entry along its parents to the first one: the symbols that led to them, the last one first. A parent stands before its entry
+-- from an entry along its parents to the first one: the symbols that led to them, the last one first. A
+-- parent stands before its entry
 abbrev pub Traced : List Listed → ℕ → List ℕ → Type 0
 Traced es i [] = i ≡ 0
-Traced es i (a ∷ w) = (e : Listed) × (slice_get es i ≡ Some e) × (e.symbol ≡ a) × (e.parent < i) × Traced es e.parent w
+Traced es i (a ∷ w) =
+    (e : Listed) × (slice_get es i ≡ Some e) × (e.symbol ≡ a) × (e.parent < i) × Traced es e.parent w
 
 -- the trail of an entry: the symbols that lead to it from the first entry, the first one first
 abbrev pub Trail : List Listed → ℕ → List ℕ → Type 0
@@ -42,7 +44,9 @@ led_to es i = with_parent_before (slice_get es i) i
 
 -- the bytes of the trail stand at the output's front where they have room, and the place after them is told
 abbrev pub TrailWritten : List Listed → ℕ → List ℕ → ℕ → List ℕ → Type 0
-TrailWritten es i output n output' = (w : List ℕ) → Trail es i w → length w ≤ length output → (n ≡ length w) × (output' ≡ overwritten output 0 w)
+TrailWritten es i output n output' =
+    (w : List ℕ) → Trail es i w → length w ≤ length output
+    → (n ≡ length w) × (output' ≡ overwritten output 0 w)
 
 -- the index of the pair that was examined last, and 0 where no pair is listed there
 abbrev pub broken_index : Work → ℕ
@@ -56,8 +60,8 @@ no_room output w = cond (nat_lt (length output) (length w)) (Some (record { faul
 abbrev pub trail_refusal : Work → Numbers → List ℕ → List ℕ → Option Refusal
 trail_refusal s claim output w = first_of (claim_refusal s claim Write ∷ no_room output w ∷ [])
 
--- what is answered of a trail: its length, with the trail at the output's front and the rest as found, or the first
--- refusal, which leaves the output as found
+-- what is answered of a trail: its length, with the trail at the output's front and the rest as found, or
+-- the first refusal, which leaves the output as found
 abbrev pub TrailAnswer : Work → Numbers → List ℕ → List ℕ → Result ℕ Refusal → List ℕ → Type 0
 TrailAnswer s claim output w (Ok n) output' =
     (trail_refusal s claim output w ≡ None) × (n ≡ length w) × (output' ≡ overwritten output 0 w)
@@ -67,4 +71,5 @@ TrailAnswer s claim output w (Err e) output' =
 -- the one outcome of a trail for the claim with these numbers: the answer of the trail of the broken pair
 abbrev pub Trailing : Area → Numbers → List ℕ → Result ℕ Refusal → List ℕ → Type 0
 Trailing a claim output r output' =
-    (w : List ℕ) × Trail (said a).pairs (broken_index (said a)) w × TrailAnswer (said a) claim output w r output'
+    (w : List ℕ) × Trail (said a).pairs (broken_index (said a)) w
+    × TrailAnswer (said a) claim output w r output'

@@ -7,8 +7,10 @@ use Rattle.compare.specs.declared.phase.Phase.{Phase}
 use Rattle.compare.specs.declared.phase.Phase.TheVariants.{Free, Running, Ready}
 use Rattle.compare.specs.declared.phase.Verdict.TheVariants.{Included}
 use Rattle.compare.specs.Listing.{entries_of}
+use Rattle.compare.specs.Pairs.{start}
 
--- number and serial; the phase; the symbol count and the two state counts, as noted; the listed pairs, and how many are examined
+-- number and serial; the phase; the symbol count and the two state counts, as noted; the listed pairs, and
+-- how many are examined
 pub record Work : Type 0 where
   pub number : ℕ
   pub serial : ℕ
@@ -36,12 +38,9 @@ said a = record {
 abbrev pub free : ℕ → ℕ → Work
 free number serial = record { number = number; serial = serial; phase = Free; symbols = 0; firsts = 0; seconds = 0; pairs = []; examined = 0 }
 
--- the pair (0, 0), which no pair led to
-abbrev pub start : Listed
-start = record { first = 0; second = 0; parent = 0; symbol = 0 }
-
--- a comparison of two schemas begins: the serial is one higher, the counts are noted, nothing earlier stays; (0, 0) is listed where the
--- first schema's state 0 is live, and otherwise the area is ready with included
+-- a comparison of two schemas begins: the serial is one higher, the counts are noted, nothing earlier
+-- stays; (0, 0) is listed where the first schema's state 0 is live, and otherwise the area is ready with
+-- included
 abbrev pub begun : Work → Tables → Tables → Bool → Work
 begun w T U live = record {
   number = w.number;

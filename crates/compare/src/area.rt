@@ -1,20 +1,19 @@
 //! The work area: one comparison at a time, with the pairs that it has listed and how many of them are examined.
 ghost use Rattle.std.specs.Prelude.{◌≡◌, false, ◌==◌};
-ghost use Rattle.domain.specs.Kinds.{bit};
 ghost use Rattle.compare.specs.Beginning.{«kept_from»};
 ghost use Rattle.compare.specs.Concluding.{claim_refusal};
 ghost use Rattle.compare.specs.Refusals.{Refuses, phase_refuses, holder_refusal};
-ghost use Rattle.compare.specs.Schemas.{first_tables, second_tables};
-ghost use Rattle.schema.specs.Tables.{tables};
-ghost use Rattle.compare.specs.Work.{said, free, begun};
+ghost use Rattle.compare.specs.Schemas.{begun_by};
+ghost use Rattle.schema.specs.Meaning.{tables_of};
+ghost use Rattle.compare.specs.Work.{said, free};
 
 use crate::claim::{Claim, Numbers};
 use crate::compared::Compared;
 use crate::event::{Decision, Event, decide};
-use crate::pairs::{Listed, Pairs};
+use crate::pairs::{Pairs, START};
 use crate::phase::{Phase, Verdict};
+use bits::sets::has_member;
 use refusal::fault::{Fault, Refusal};
-use schema::sets::has_member;
 use schema::tested::Tested;
 
 /// A work area. What is said of it says all: nothing stays in it of an earlier comparison.
@@ -29,14 +28,8 @@ pub struct Area {
     pub(crate) examined: u16,
 }
 
-/// The pair (0, 0), which no pair led to.
-// Its parent and symbol are 0 and no option: what led to a pair is asked only where its parent stands before it.
-const START: Listed = Listed {
-    first: 0,
-    second: 0,
-    parent: 0,
-    symbol: 0,
-};
+/// The last serial, which can't be raised.
+pub const LAST_SERIAL: u32 = u32::MAX;
 
 /// A free area with that number.
 // No method of the type, nor is any other call that only our own crates may make: callers get the type with its methods.
@@ -82,13 +75,13 @@ impl Area {
         second: &Tested<D>,
         event: Event,
     ) -> Result<(), Refusal>
-        ensures { Refuses (kept_from (said self.now) (tables first.now.measured.schema) (tables second.now.measured.schema) event) result }
+        ensures { Refuses (kept_from (said self.now) (tables_of first.now) (tables_of second.now) event) result }
     {
         if first.symbols() != second.symbols() {
             return Err(refusal(self, Fault::Symbols));
         }
         self.permits(event)?;
-        if self.serial == u32::MAX {
+        if self.serial == LAST_SERIAL {
             return Err(refusal(self, Fault::Worn));
         }
         Ok(())
@@ -96,8 +89,8 @@ impl Area {
 
     /// Begins a comparison of two schemas. Nothing earlier stays.
     pub(crate) fn start<D>(&mut self, compared: &Compared<D>)
-        requires { (self.old.serial == 4294967295) ≡ false }
-        ensures { said self.new ≡ begun (said self.old) (first_tables compared.now) (second_tables compared.now) (bit compared.now.live 0) }
+        requires { (self.old.serial == LAST_SERIAL) ≡ false }
+        ensures { said self.new ≡ begun_by compared.now (said self.old) }
     {
         self.serial += 1;
         self.symbols = compared.first.symbols() as u8;

@@ -18,6 +18,15 @@ pub struct Listed {
     pub symbol: u8,
 }
 
+/// The pair (0, 0), which no pair led to. A slot without an entry holds it too.
+// Its parent and symbol are 0 and no option: what led to a pair is asked only where its parent stands before it.
+pub const START: Listed = Listed {
+    first: 0,
+    second: 0,
+    parent: 0,
+    symbol: 0,
+};
+
 /// The pairs in the order in which they were listed, inside two state counts, and for each first state a bit for each listed second.
 // A buffer with its length beside it and no list that grows: an area has memory for every pair from the start, so no step can lack it.
 // No model beside the fields: contracts say `entries_of` of what was listed and the counts by name, and a model's value would say no more.

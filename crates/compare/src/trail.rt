@@ -1,11 +1,9 @@
 //! The trail to the broken pair of a comparison that came out apart.
 ghost use Rattle.std.specs.Prelude.{◌≡◌, ℕ, ◌≤◌, List, length};
 ghost use Rattle.compare.specs.Claims.{less_claim, ComesBack};
-ghost use Rattle.compare.specs.Deciding.{TrailsAsDecided, TrailNotEarly};
+ghost use Rattle.compare.specs.Laws.{TrailLaws};
 ghost use Rattle.compare.specs.Listing.{entries_of};
-ghost use Rattle.compare.specs.Outcomes.{OneTrailing};
-ghost use Rattle.compare.specs.Strangers.{TrailOfStranger};
-ghost use Rattle.compare.specs.Trailing.{Trail, Trailing, TrailWritten, OneTrail, EveryTrail, led_to, broken_index};
+ghost use Rattle.compare.specs.Trailing.{Trail, Trailing, TrailWritten, led_to, broken_index};
 ghost use Rattle.compare.specs.Work.{said};
 
 use crate::area::Area;
@@ -62,7 +60,7 @@ pub(crate) fn broken_index(area: &Area) -> usize
 
 /// Writes the symbols that lead from the pair (0, 0) to the broken pair at the output's front, a byte each, and tells how many. Or `foreign`,
 /// `ousted`, `early` or `room`. The claim comes back either way.
-#[tactic(auto, using(crate::proofs::Trails::one_trail, crate::proofs::Trails::every_trail, crate::proofs::Strangers::trail_of_stranger, crate::proofs::Outcomes::one_trailing, crate::proofs::Deciding::trails_as_decided, crate::proofs::Deciding::trail_not_early))]
+#[tactic(auto, using(crate::proofs::Laws::trail_laws))]
 pub fn trail<S: ConcludedApart>(
     area: &Area,
     claim: Lease<S>,
@@ -70,12 +68,7 @@ pub fn trail<S: ConcludedApart>(
 ) -> Result<(usize, Lease<S>), (Refusal, Lease<S>)>
     ensures outcome { Trailing area.now claim.numbers output.old (less_claim result) output.new }
     ensures back { ComesBack claim result }
-    ensures one { OneTrail }
-    ensures every { EveryTrail }
-    ensures stranger { TrailOfStranger }
-    ensures answer { OneTrailing }
-    ensures table { TrailsAsDecided }
-    ensures early { TrailNotEarly }
+    ensures laws { TrailLaws }
 {
     // no `?`: the claim goes back with the refusal
     if let Err(refusal) = area.permits_claim(claim.numbers(), Event::Write) {

@@ -1,5 +1,5 @@
 //! What writing a document asks of an area: whether the claim's holder may have one, and the broken pair that it is of.
-ghost use Rattle.schema.specs.Tables.{tables};
+ghost use Rattle.schema.specs.Meaning.{tables_of};
 ghost use Rattle.compare.specs.Refusals.{Refuses};
 ghost use Rattle.compare.specs.Work.{said};
 ghost use Rattle.compare.specs.Writing.{write_kept_from, BrokenOf};
@@ -30,7 +30,8 @@ pub fn permits_write<D>(
     claim: Numbers,
     slots: usize,
 ) -> Result<(), Refusal>
-    ensures { Refuses (write_kept_from (said area.now) (tables first.now.measured.schema) (tables second.now.measured.schema) claim slots) result }
+    ensures { Refuses
+        (write_kept_from (said area.now) (tables_of first.now) (tables_of second.now) claim slots) result }
 {
     area.permits_held(first, second, claim)?;
     area.permits(Event::Write)?;

@@ -1,20 +1,13 @@
 -- The three kinds of domain: which values each has. Assumes nothing.
-use Rattle.std.specs.Prelude.{ℕ, ◌+◌, ◌-◌, ◌/◌, ◌%◌, ◌^◌, Bool, false, cond, ◌&&◌, ◌||◌, List, [], ◌∷◌, take, ◌==◌, nat_le, nat_lt}
+use Rattle.std.specs.Prelude.{ℕ, ◌+◌, ◌-◌, Bool, false, cond, ◌&&◌, ◌||◌, List, [], ◌∷◌, take, ◌==◌, nat_le, nat_lt}
+use Rattle.bits.specs.Bits.{bit}
 use Rattle.domain.specs.declared.keywords.Keywords.{Keywords}
 use Rattle.domain.specs.declared.coverage.Range.{Range}
 use Rattle.domain.specs.declared.coverage.Coverage.{Coverage}
 
--- bit i of a number, bit 0 the lowest
-abbrev pub bit : ℕ → ℕ → Bool
-bit bits i = bits / 2 ^ i % 2 == 1
-
--- the value i, below 64, is in the set that the bits say when bit i is set
-abbrev pub in_bits : ℕ → ℕ → Bool
-in_bits bits v = nat_lt v 64 && bit bits v
-
--- keywords: 64 bits
+-- keywords: the value i, below 64, is a member when bit i is set
 abbrev pub has_keyword : Keywords → ℕ → Bool
-has_keyword k v = in_bits k.bits v
+has_keyword k v = nat_lt v 64 && bit k.bits v
 
 -- both ends of a range are in it
 abbrev pub in_range : Range → ℕ → Bool

@@ -8,7 +8,7 @@ use Rattle.domain.specs.Making.{coverage_of, at, Follows, Makes}
 use Rattle.domain.specs.Sets.{Smallest, alone}
 use Rattle.refusal.specs.declared.fault.Fault.TheVariants as fault
 use Rattle.refusal.specs.declared.fault.Refusal.{Refusal}
-use Rattle.schema.proofs.Members.{bit_zero}
+use Rattle.bits.proofs.Members.{bit_zero}
 use Rattle.history.specs.Marked.{just_letters, from_to, touching_ranges, parted_ranges, IsRefusal}
 
 -- the code points of a range

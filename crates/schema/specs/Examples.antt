@@ -3,7 +3,7 @@ use Rattle.std.specs.Prelude.{◌≡◌, ℕ, Bool, true, false, List, [], ◌�
 use Rattle.refusal.specs.declared.fault.Fault.TheVariants as fault
 use Rattle.codec.specs.Trees.{Tree, node, none, child}
 use Rattle.schema.specs.Automata.{Automaton, accepts}
-use Rattle.schema.specs.Faults.{table_fault, either_fault}
+use Rattle.schema.specs.Faults.{table_fault, either_fault, Limits}
 use Rattle.schema.specs.Live.{Live, LiveSymbol, Rank}
 use Rattle.schema.specs.Tables.{Tables, automaton}
 
@@ -133,3 +133,4 @@ pub record SmallSchemas : Type 0 where
   pub faults : SmallFaults
   pub ranks : BookRanks
   pub dead : LeadsBackDead
+  pub limits : Limits

@@ -2,7 +2,7 @@
 use Rattle.std.specs.Prelude.{◌≡◌, ℕ, ◌<◌, ◌≤◌, Bool, true, false, List, [], ◌∷◌, ◌++◌, Some, None, Option, Decides}
 use Rattle.std.specs.List.{AllByRecursion, slice_get}
 use Rattle.codec.specs.Trees.{Tree, height}
-use Rattle.domain.specs.Kinds.{bit}
+use Rattle.bits.specs.Bits.{bit}
 use Rattle.schema.specs.Automata.{Automaton, passes, allowed, accepts}
 use Rattle.schema.specs.Rows.{RunsOver}
 

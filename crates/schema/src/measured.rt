@@ -25,7 +25,8 @@ fn byte_at(table: &[u8], index: usize, other: u8) -> u8
 impl<'a, D> Measured<'a, D> {
     /// The schema, tested for `size`.
     pub fn new(schema: &Schema<'a, D>) -> Result<Measured<'a, D>, Refusal>
-        ensures { MatchResult result (λ m. m.schema ≡ schema.now) (λ e. size_fault (tables schema.now) ≡ Some e) }
+        ensures { MatchResult result
+            (λ m. m.schema ≡ schema.now) (λ e. size_fault (tables schema.now) ≡ Some e) }
     {
         if schema.counts_fit() && schema.lengths_fit() {
             Ok(Measured { schema: *schema })

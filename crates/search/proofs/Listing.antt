@@ -4,9 +4,9 @@ use Rattle.std.specs.List.{slice_get}
 use Rattle.std.proofs.lemmas.Nat.{mul-add-lt, div-mul-add, mod-mul-add}
 use Rattle.std.proofs.lemmas.List.{get_or-set_other, get_or-set_same, length_push}
 use Rattle.std.proofs.lemmas.Bool.{and_from, and_parts, both_ways, cases_eq, eq-eqb, eqb-true, lt-ltb, ne_eqb, or_cases, or_left, or_right}
-use Rattle.domain.specs.Kinds.{bit}
-use Rattle.schema.specs.Below.{count_below}
-use Rattle.schema.proofs.Counting.{count_le, count_grows}
+use Rattle.bits.specs.Bits.{bit}
+use Rattle.bits.specs.Below.{count_below}
+use Rattle.bits.proofs.Counting.{count_le, count_grows}
 use Rattle.search.specs.declared.listed.Listed.{Listed}
 use Rattle.search.specs.declared.pairs.RowPair.{RowPair}
 use Rattle.search.specs.Listing.{lists}

@@ -5,7 +5,7 @@ use Rattle.std.proofs.lemmas.List.{length_push, length-reverse, reverse-reverse}
 use Rattle.std.proofs.lemmas.Bool.{both_ways, cases_lt}
 use Rattle.std.proofs.lemmas.Option.{none-some, same_Some}
 use Rattle.codec.specs.Piles.{slots, Stack}
-use Rattle.domain.specs.Kinds.{bit}
+use Rattle.bits.specs.Bits.{bit}
 use Rattle.schema.specs.Automata.{Automaton}
 use Rattle.schema.specs.Tables.{tables, sets, automaton_of, row_count}
 use Rattle.schema.specs.declared.tables.Schema.{Schema}

@@ -1,7 +1,7 @@
 -- The listed pairs, and what listing one more leaves. Assumes nothing.
 use Rattle.std.specs.Prelude.{◌≡◌, ℕ, ◌<◌, Bool, true, false, ◌&&◌, ◌||◌, [], ◌∷◌, ◌++◌, length, Some, None, Option, ◌==◌, slice_index}
 use Rattle.codec.specs.Piles.{slots, Stack}
-use Rattle.domain.specs.Kinds.{bit}
+use Rattle.bits.specs.Bits.{bit}
 use Rattle.search.specs.declared.listed.Listed.{Listed}
 use Rattle.search.specs.declared.pairs.RowPair.{RowPair}
 

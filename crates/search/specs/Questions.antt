@@ -1,6 +1,6 @@
 -- What is asked: a state of a schema, the symbols that may be used there, and a watcher. Assumes nothing.
 use Rattle.std.specs.Prelude.{ℕ, Bool, List, Option}
-use Rattle.domain.specs.Kinds.{bit}
+use Rattle.bits.specs.Bits.{bit}
 use Rattle.schema.specs.Automata.{Automaton}
 use Rattle.schema.specs.Tables.{automaton_of}
 use Rattle.search.specs.declared.pairs.RowPair.{RowPair}

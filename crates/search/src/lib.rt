@@ -5,6 +5,7 @@ mod listed;
 pub mod pairs;
 pub mod reading;
 pub mod search;
+pub mod slots;
 #[cfg(test)]
 mod tests;
 pub mod watcher;

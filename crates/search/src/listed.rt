@@ -5,7 +5,7 @@ ghost use Rattle.search.specs.Listing.{lists, Enlists};
 use crate::pairs::RowPair;
 use codec::pile::Pile;
 use schema::faults::STATE_ROWS;
-use schema::sets::{has_member, with_member};
+use bits::sets::{has_member, with_member};
 
 /// One mask for each row that a state can have.
 const MASKS: usize = STATE_ROWS as usize;

@@ -8,7 +8,7 @@ use crate::pairs::{ROW_PAIRS, RowPair};
 use crate::watcher::Watcher;
 use codec::pile::Pile;
 use domain::domain::Domain;
-use schema::sets::has_member;
+use bits::sets::has_member;
 use schema::tested::Tested;
 
 /// A question for the sequences over a set of symbols that run at a state of a schema and that a watcher wants.

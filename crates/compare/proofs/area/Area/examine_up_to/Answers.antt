@@ -1,6 +1,6 @@
 -- Turn by turn, while the area runs. Assumes nothing.
 use Rattle.std.proofs.Common.{ℕ, sym, ◌∙◌, subst, add-one, arith}
-use Rattle.compare.specs.Schemas.{first_automaton, second_automaton}
+use Rattle.schema.specs.Meaning.{meaning}
 use Rattle.compare.specs.Stepping.{Turns}
 use Rattle.compare.specs.Work.{said}
 use Rattle.compare.proofs.Turning.{runs_where_examined, noted_stays}
@@ -9,8 +9,8 @@ use Rattle.compare.proofs.area.Area.examine_up_to.Goals as goal
 pub loop-preserved : goal.loop-preserved
 loop-preserved g c = λ noted mask room.
     let compared = c.args.compared.now in
-    let A = first_automaton g.D.Domain.holds compared in
-    let B = second_automaton g.D.Domain.holds compared in
+    let A = meaning g.D.Domain.holds compared.first.now in
+    let B = meaning g.D.Domain.holds compared.second.now in
     let so = c.loop.invariant noted mask room in
     let v = said c.loop.self in
     let turn = c.examine.ensures so.1 mask (omega (arith, room, c.loop.auto.scratch)) in (

@@ -1,12 +1,12 @@
 -- The search finds a sequence over the symbols into live states that the second state refuses, if there is one. Assumes nothing.
 use Rattle.std.proofs.Common.{Bool, length, Decides, sym, ap, subst, arith}
-use Rattle.domain.specs.Kinds.{bit}
+use Rattle.bits.specs.Bits.{bit}
 use Rattle.schema.specs.Tables.{tables, sets, automaton}
 use Rattle.schema.proofs.Sound.{sound}
 use Rattle.search.specs.Watching.{refusing}
+use Rattle.schema.specs.Meaning.{meaning}
 use Rattle.compare.specs.declared.phase.Kind.TheVariants.{Content}
 use Rattle.compare.specs.Breaking.{Broken}
-use Rattle.compare.specs.Schemas.{first_automaton, second_automaton}
 use Rattle.compare.proofs.Sought.{found_breaks}
 use Rattle.compare.proofs.compared.Compared.is_content_broken.Goals as goal
 
@@ -18,8 +18,8 @@ returns g c = λ there mask room.
     let w = c.new.result in
     let v = w.tested.now.measured.schema in
     let holds = g.D.Domain.holds in
-    let A = first_automaton holds compared in
-    let B = second_automaton holds compared in
+    let A = meaning holds compared.first.now in
+    let B = meaning holds compared.second.now in
     let W = refusing (automaton (tables v) (sets holds v)) w.state in
     let p = c.args.p in
     let q = c.args.q in
