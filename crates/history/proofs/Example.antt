@@ -12,13 +12,13 @@ use Rattle.compare.specs.declared.phase.Kind.TheVariants.{Content}
 use Rattle.compare.specs.declared.phase.Phase.{Phase}
 use Rattle.compare.specs.declared.phase.Phase.TheVariants as phase
 use Rattle.compare.specs.declared.phase.Verdict.TheVariants as verdict
-use Rattle.compare.specs.Pairs.{blank, listed, Fits, Kept}
+use Rattle.compare.specs.Pairs.{listed, Fits, start}
 use Rattle.compare.specs.declared.event.Event.TheVariants.{Take}
 use Rattle.compare.specs.Beginning.{begin_refusal, Begins}
 use Rattle.compare.specs.declared.step.TheConstants.{MOST_STEPS}
 use Rattle.compare.specs.Stepping.{Stepped}
-use Rattle.compare.specs.Work.{Work, said, start, free, begun}
-use Rattle.compare.proofs.Keeping.{kept_from}
+use Rattle.compare.specs.Work.{Work, said, free, begun}
+use Rattle.compare.proofs.Keeping.{kept_from, Kept}
 use Rattle.history.specs.Calls.{take_up, Does, Runs}
 use Rattle.history.specs.Example.{pair_of, claim, room_for_six, example, ExampleRuns}
 use Rattle.history.specs.Marked.{zero_alone, U, V, over_zero}
@@ -26,7 +26,7 @@ use Rattle.history.proofs.Marked.{alone_U, alone_V, broken_examined, one_turn, u
 
 -- the slots of a list with one entry, the pair (0, 0)
 abbrev slots : List Listed
-slots = start ∷ replicate 4095 blank
+slots = start ∷ replicate 4095 start
 
 -- and its bits
 abbrev bits : List ℕ
@@ -47,12 +47,12 @@ kept_one =
       few_firsts = lit< tt;
       few_seconds = lit< tt;
       short = lit< tt;
-      fit = λ i low. let here : i ≡ 0 = omega (arith, low) in subst (λ (j : ℕ). Fits 1 1 j (get_or (take 1 slots) j blank)) (sym here) (record { first_inside = lit< tt; second_inside = lit< tt; led = λ later. absurd (omega (arith, later)) });
-      once = λ i low. let here : i ≡ 0 = omega (arith, low) in subst (λ (j : ℕ). listed (take j (take 1 slots)) (get_or (take 1 slots) j blank).first (get_or (take 1 slots) j blank).second ≡ false) (sym here) refl;
+      fit = λ i low. let here : i ≡ 0 = omega (arith, low) in subst (λ (j : ℕ). Fits 1 1 j (get_or (take 1 slots) j start)) (sym here) (record { first_inside = lit< tt; second_inside = lit< tt; led = λ later. absurd (omega (arith, later)) });
+      once = λ i low. let here : i ≡ 0 = omega (arith, low) in subst (λ (j : ℕ). listed (take j (take 1 slots)) (get_or (take 1 slots) j start).first (get_or (take 1 slots) j start).second ≡ false) (sym here) refl;
       masks = ap suc (length-replicate {A = ℕ} 63 0);
       narrow = narrow;
       say = say;
-      slots_long = ap suc (length-replicate 4095 blank);
+      slots_long = ap suc (length-replicate 4095 start);
       rest = rest;
     }
   where
@@ -64,9 +64,9 @@ kept_one =
     say zero q low small = bit_one q
     say (suc p) q low small = ap (λ (n : ℕ). bit n q) (get_or-replicate 63 p 0 0 (omega (arith, low))) ∙ bit_zero q ∙ ap (λ (t : Bool). t && eqb 0 q || false) (sym (ne_eqb 0 (suc p) (λ same. absurd (omega (arith, same)))))
 
-    rest : (i : ℕ) → 1 ≤ i → i < 4096 → get_or slots i blank ≡ blank
+    rest : (i : ℕ) → 1 ≤ i → i < 4096 → get_or slots i start ≡ start
     rest zero past inside = absurd (omega (arith, past))
-    rest (suc i) past inside = get_or-replicate 4095 i blank blank (omega (arith, inside))
+    rest (suc i) past inside = get_or-replicate 4095 i start start (omega (arith, inside))
 
 -- the list with the pair (0, 0), for two schemas of one state each
 abbrev one_pair : Pairs

@@ -24,7 +24,8 @@ use Rattle.compare.specs.Breaking.{Broken, Unbroken}
 use Rattle.compare.specs.declared.step.TheConstants.{MOST_STEPS}
 use Rattle.compare.specs.Growing.{LastBroken}
 use Rattle.compare.specs.Stepping.{examined_to, Stepped, Examines, is_running}
-use Rattle.compare.specs.Work.{Work, start, begun}
+use Rattle.compare.specs.Pairs.{start}
+use Rattle.compare.specs.Work.{Work, begun}
 use Rattle.compare.proofs.Outcomes.{same_decision}
 use Rattle.compare.proofs.Turned.{one_stepped}
 use Rattle.document.specs.Samples.{LowerSequence, Sample}

@@ -19,7 +19,8 @@ use Rattle.compare.specs.declared.phase.Phase.TheVariants as phase
 use Rattle.compare.specs.Breaking.{Broken, ToldApart}
 use Rattle.compare.specs.Growing.{Path}
 use Rattle.compare.specs.Trailing.{broken_index}
-use Rattle.compare.specs.Work.{said, start, held_by}
+use Rattle.compare.specs.Pairs.{start}
+use Rattle.compare.specs.Work.{said, held_by}
 use Rattle.document.specs.Documents.{Way, symbols_of, DocumentOf}
 use Rattle.history.specs.Calls.{Handed, first_automaton, second_automaton, Same, Call, take_up, oust, step, conclude, trail, document, give_up, are, is_inclusion, is_writing, told}
 use Rattle.history.specs.Comparisons.{Comparison, own_call, StepsOverItsOwn, GrantedAllPairs, IsHolder, NeitherOustedNorGivenUp, ApartAndHolder, HasVerdict, ConcludesNow, DocumentRefused, AnotherBegan, OwnNow}

@@ -20,7 +20,8 @@ use Rattle.compare.specs.declared.phase.Verdict.{Verdict}
 use Rattle.compare.specs.declared.phase.Verdict.TheVariants.{Included, Apart}
 use Rattle.compare.specs.declared.step.TheConstants.{MOST_STEPS}
 use Rattle.compare.specs.Stepping.{Stepped}
-use Rattle.compare.specs.Work.{Work, start, begun}
+use Rattle.compare.specs.Pairs.{start}
+use Rattle.compare.specs.Work.{Work, begun}
 use Rattle.document.specs.Documents.{DocumentOf}
 
 -- the keyword domain {0}, of each schema below
