@@ -3,3 +3,4 @@ pub mod Comparisons
 pub mod Example
 pub mod Law
 pub mod Marked
+pub mod Opening
