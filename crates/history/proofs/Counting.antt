@@ -32,8 +32,8 @@ abbrev pub is_apart : Phase → Bool
 is_apart (phase.Apart k) = true
 is_apart p = false
 
--- so many steps have been granted: it has not turned apart, the two counts are noted, and while it runs
--- as many pairs are examined, and one more is listed
+-- so many steps have been granted: it has not turned apart, the two counts are noted, and while it
+-- runs as many pairs are examined, and one more is listed
 record Counted (n m g : ℕ) (w : Work) : Type 0 where
   together : (k : Kind) → w.phase ≡ phase.Apart k → ⊥
   firsts : w.firsts ≡ n
@@ -42,7 +42,9 @@ record Counted (n m g : ℕ) (w : Work) : Type 0 where
 
 module _ (n m : ℕ) where
   -- a verdict stands
-  ready : (g : ℕ) (w : Work) (v : Verdict) → w.phase ≡ phase.Ready v → w.firsts ≡ n → w.seconds ≡ m → Counted n m g w
+  ready :
+      (g : ℕ) (w : Work) (v : Verdict) → w.phase ≡ phase.Ready v → w.firsts ≡ n → w.seconds ≡ m →
+      Counted n m g w
   ready g w v is firsts seconds =
       record {
         together = λ k apart. false≢true (ap is_apart (sym is ∙ apart));
@@ -52,10 +54,14 @@ module _ (n m : ℕ) where
       }
 
   -- one pair more is examined, and these are listed
-  goes_on : (g : ℕ) (w : Work) (es : List Listed) → w.phase ≡ going_on (g + 1) es → w.pairs ≡ es → w.examined ≡ g + 1 → g < length es → w.firsts ≡ n → w.seconds ≡ m → Counted n m (g + 1) w
+  goes_on :
+      (g : ℕ) (w : Work) (es : List Listed) → w.phase ≡ going_on (g + 1) es → w.pairs ≡ es →
+      w.examined ≡ g + 1 → g < length es → w.firsts ≡ n → w.seconds ≡ m → Counted n m (g + 1) w
   goes_on g w es is listed more low firsts seconds = by (eqb (g + 1) (length es)) refl is
     where
-      by : (b : Bool) → eqb (g + 1) (length es) ≡ b → w.phase ≡ cond b (phase.Ready verdict.Included) phase.Running → Counted n m (g + 1) w
+      by :
+          (b : Bool) → eqb (g + 1) (length es) ≡ b →
+          w.phase ≡ cond b (phase.Ready verdict.Included) phase.Running → Counted n m (g + 1) w
       by true all is = ready (g + 1) w verdict.Included is firsts seconds
       by false left is =
           record {
@@ -66,7 +72,9 @@ module _ (n m : ℕ) where
           }
 
   module _ (A B : Automaton) where
-    turn_counted : (g : ℕ) (w w' : Work) → w.phase ≡ phase.Running → Turn A B w w' → Counted n m g w → Counted n m (g + 1) w'
+    turn_counted :
+        (g : ℕ) (w w' : Work) → w.phase ≡ phase.Running → Turn A B w w' → Counted n m g w →
+        Counted n m (g + 1) w'
     turn_counted g w w' runs turn c =
         let stay = counts_stay A B w w' turn in
         let firsts : w'.firsts ≡ n = stay.1 ∙ c.firsts in
@@ -95,7 +103,8 @@ module _ (n m : ℕ) where
         subst (λ (i : ℕ). Counted n m i w') last (turn_counted (g + k) turns.0 w' turns.2 turns.3 (turns_counted k g w turns.0 turns.1 c))
 
     -- a step examines as many as it was asked for, where the area still runs
-    stepped_counted : (k g : ℕ) (w w' : Work) → Stepped A B k w w' → Counted n m g w → Counted n m (g + k) w'
+    stepped_counted :
+        (k g : ℕ) (w w' : Work) → Stepped A B k w w' → Counted n m g w → Counted n m (g + k) w'
     stepped_counted k g w w' s c =
         let after = turns_counted s.taken g w w' s.turns c in
         record {
@@ -112,7 +121,9 @@ inclusion_concludes d is = absurd (false≢true is)
 
 module _ (n : Numbers) (i j : ℕ) where
   -- where the steps granted reach the product of the counts, a verdict stands
-  enough : (g : ℕ) (a : Area) → Held n (said a) → Counted i j g (said a) → i * j ≤ g → claim_refusal (said a) n Conclude ≡ None
+  enough :
+      (g : ℕ) (a : Area) → Held n (said a) → Counted i j g (said a) → i * j ≤ g →
+      claim_refusal (said a) n Conclude ≡ None
   enough g a held c reached = by a.phase refl
     where
       by : (p : Phase) → a.phase ≡ p → claim_refusal (said a) n Conclude ≡ None
@@ -123,8 +134,8 @@ module _ (n : Numbers) (i j : ℕ) where
       by (phase.Ready v) is = conclusion_permitted (said a) n v held is
       by (phase.Apart k) is = absurd (c.together k is)
 
-  -- the area is held, after so many steps granted; and it is neither ousted nor given up by the calls,
-  -- which grant enough
+  -- the area is held, after so many steps granted; and it is neither ousted nor given up by the
+  -- calls, which grant enough
   record Course (cs : List Call) (g : ℕ) (a : Area) : Type 0 where
     held : Held n (said a)
     counted : Counted i j g (said a)
@@ -138,7 +149,9 @@ module _ (n : Numbers) (i j : ℕ) where
 
   -- what one call more, before the others, comes to
   module _ (d : Call) (cs : List Call) (g : ℕ) (a m now : Area) (c : Course (d ∷ cs) g a) (then : (g' : ℕ) → Course cs g' m → Timely cs now) where
-    later : (g' : ℕ) → g' ≡ g + granted_by n d → Held n (said m) → Counted i j g' (said m) → Timely (d ∷ cs) now
+    later :
+        (g' : ℕ) → g' ≡ g + granted_by n d → Held n (said m) → Counted i j g' (said m) →
+        Timely (d ∷ cs) now
     later g' more held counted =
         let course : Course cs g' m = record { held = held; counted = counted; unousted = (or_parts (is_ousting d) _ c.unousted).1; kept = (or_parts (is_made_with n d && is_giving_up d) (some_own n is_giving_up cs) c.kept).1; reached = omega (arith, more, c.reached) } in
         ⊎_elim (λ so. inl (or_right _ _ so)) inr (then g' course)
@@ -166,7 +179,8 @@ module _ (n : Numbers) (i j : ℕ) where
   timely (d ∷ cs) g a now runs c = one_call d cs g a runs.0 now c (λ g' c'. timely cs g' runs.0 now runs.2 c') (effect d a runs.0 runs.1)
 
 -- a comparison that has begun
-begun_counted : (w w' : Work) (T U : Tables) (live : Bool) → w' ≡ begun w T U live → Counted T.states U.states 0 w'
+begun_counted :
+    (w w' : Work) (T U : Tables) (live : Bool) → w' ≡ begun w T U live → Counted T.states U.states 0 w'
 begun_counted w w' T U true is = record { together = λ k apart. false≢true (ap is_apart (sym (ap (λ (x : Work). x.phase) is) ∙ apart)); firsts = ap (λ (x : Work). x.firsts) is; seconds = ap (λ (x : Work). x.seconds) is; runs = λ _. (ap (λ (x : Work). x.examined) is, omega (arith, ap (λ (x : Work). x.examined) is, ap (λ (x : Work). length x.pairs) is)) }
 begun_counted w w' T U false is = ready T.states U.states 0 w' verdict.Included (ap (λ (x : Work). x.phase) is) (ap (λ (x : Work). x.firsts) is) (ap (λ (x : Work). x.seconds) is)
 

@@ -1,12 +1,11 @@
--- While a comparison of its own schemas is apart, it has a document: a call that writes it lacks room
--- at most. Assumes nothing.
-use Rattle.std.proofs.Common.{◌≡◌, ℕ, zero, suc, ◌^◌, true, ◌&&◌, ltb, List, [], ◌∷◌, Some, None, Ok, sym, refl, ap, ap₂, ◌∙◌, subst, inl, inr, ⊎_elim}
+-- While a comparison of its own schemas is apart, it has a document: a call that writes it lacks
+-- room at most. Assumes nothing.
+use Rattle.std.proofs.Common.{◌≡◌, ◌^◌, true, ◌&&◌, ltb, List, [], ◌∷◌, Some, None, Ok, sym, refl, ap, ap₂, ◌∙◌, subst, inl, inr, ⊎_elim}
 use Rattle.std.specs.List.{slice_get}
 use Rattle.std.proofs.lemmas.Bool.{and_parts, false≢true, ltb-true, or_cases}
 use Rattle.std.proofs.lemmas.Option.{none-some}
 use Rattle.refusal.specs.declared.fault.Fault.TheVariants.{Room}
 use Rattle.refusal.specs.declared.fault.Refusal.{Refusal}
-use Rattle.schema.specs.Automata.{Automaton}
 use Rattle.schema.specs.Tables.{Tables}
 use Rattle.schema.proofs.Sound.{some_not_none}
 use Rattle.compare.specs.declared.area.Area.{Area}
@@ -17,45 +16,31 @@ use Rattle.compare.specs.declared.phase.Kind.{Kind}
 use Rattle.compare.specs.declared.phase.Phase.{Phase}
 use Rattle.compare.specs.declared.phase.Phase.TheVariants as phase
 use Rattle.compare.specs.Growing.{LastBroken, Stands}
-use Rattle.compare.specs.Stepping.{Turns}
 use Rattle.compare.specs.Trailing.{broken_index}
 use Rattle.compare.specs.Work.{Work, said}
 use Rattle.compare.proofs.Grown.{last_index}
-use Rattle.compare.proofs.Turning.{counts_stay}
 use Rattle.document.specs.Documents.{HasDocument}
 use Rattle.document.specs.Writing.{NoDocument, early_refusal}
 use Rattle.document.proofs.Existing.{has_document}
 use Rattle.history.specs.Calls.{Handed, first_automaton, second_automaton, Call, conclude, Does, Runs, are, is_made_with, some_own, is_parting}
 use Rattle.history.specs.Comparisons.{Comparison, StepsOverItsOwn, ApartAndHolder, DocumentRefused}
 use Rattle.history.proofs.Counting.{is_apart}
-use Rattle.history.proofs.Effects.{Effect, Keeps, Steps, Parts, effect, step_turns, part_left, started_so}
-use Rattle.history.proofs.Holders.{Standing, stands_now, stands_on, stands_along, held_on, started_held}
+use Rattle.history.proofs.Effects.{Effect, Keeps, Steps, Parts, effect, step_none, part_left, started_so}
+use Rattle.history.proofs.Holders.{Onward, step_onward, part_onward, Standing, stands_now, stands_on, stands_along, held_on, started_held}
 use Rattle.history.proofs.Permits.{Held, Noted, holder_held, begin_permitted, same_symbols, nothing_early}
 use Rattle.history.proofs.Verdicts.{GrownFor, grown_same, now_grown}
-use Rattle.history.proofs.Writings.{turns_none}
 
 -- the noted counts stay those of the schemas
-module _ (n : Numbers) (T U : Tables) where
-  turns_noted : (A B : Automaton) (k : ℕ) (w w' : Work) → Turns A B k w w' → Noted T U w → Noted T U w'
-  turns_noted A B zero w w' turns noted = subst (Noted T U) (sym turns) noted
-  turns_noted A B (suc k) w w' turns noted =
-      let before = turns_noted A B k w turns.0 turns.1 noted in
-      let stay = counts_stay A B turns.0 w' turns.3 in
-      record { symbols = stay.0 ∙ before.symbols; firsts = stay.1 ∙ before.firsts; seconds = stay.2 ∙ before.seconds }
+module _ (T U : Tables) where
+  abbrev NotedIn : Area → Type 0
+  NotedIn a = Noted T U (said a)
 
-  noted_on : (d : Call) (a a' : Area) → Effect d a a' → Standing n (λ x. Noted T U (said x)) a → Standing n (λ x. Noted T U (said x)) a'
-  noted_on d a a' e = stands_on n (λ x. Noted T U (said x)) (λ x. Noted T U (said x)) kept stepped parted e
+  noted_on : (n : Numbers) (d : Call) (a a' : Area) → Effect d a a' → Standing n NotedIn a → Standing n NotedIn a'
+  noted_on n d a a' e =
+      stands_on n NotedIn NotedIn (λ k noted. subst NotedIn (sym k.same) noted) (λ s its noted. onward (step_onward s) noted) (λ p noted. onward (part_onward p) noted) e
     where
-      kept : Keeps d a a' → Noted T U (said a) → Noted T U (said a')
-      kept e noted = subst (λ (x : Area). Noted T U (said x)) (sym e.same) noted
-
-      stepped : (s : Steps d a a') → are n s.numbers ≡ true → Noted T U (said a) → Noted T U (said a')
-      stepped s its noted = turns_noted (first_automaton s.handed) (second_automaton s.handed) s.does.1.stepped.taken (said a) (said a') (step_turns s) noted
-
-      parted : Parts d a a' → Noted T U (said a) → Noted T U (said a')
-      parted p noted =
-          let left = part_left p in
-          record { symbols = ap (λ (x : Work). x.symbols) left ∙ noted.symbols; firsts = ap (λ (x : Work). x.firsts) left ∙ noted.firsts; seconds = ap (λ (x : Work). x.seconds) left ∙ noted.seconds }
+      onward : Onward (said a) (said a') → NotedIn a → NotedIn a'
+      onward on noted = record { symbols = on.symbols ∙ noted.symbols; firsts = on.firsts ∙ noted.firsts; seconds = on.seconds ∙ noted.seconds }
 
 -- what was concluded apart stays apart until it ends
 module _ (n : Numbers) where
@@ -74,14 +59,16 @@ module _ (n : Numbers) where
       stepped : (s : Steps d a a') → are n s.numbers ≡ true → IsApart a → IsApart a'
       stepped s its was =
           let still : a.phase ≡ phase.Running → ⊥ = λ runs. false≢true (sym (ap is_apart runs) ∙ was) in
-          ap (λ (x : Work). is_apart x.phase) (turns_none (first_automaton s.handed) (second_automaton s.handed) s.does.1.stepped.taken (said a) (said a') still (step_turns s)) ∙ was
+          ap (λ (x : Work). is_apart x.phase) (step_none s still) ∙ was
 
   -- the call that concludes it
   parting : (d : Call) (a a' : Area) → is_parting d ≡ true → Does d a a' → IsApart a'
   parting (conclude c (Ok (concluded.Apart k count claim))) a a' is does = apart_after (conclude c (Ok (concluded.Apart k count claim))) a a' (record { claim = c; kind = k; count = count; apart = claim; is = refl; does = does })
   parting d a a' is does = absurd (false≢true is)
 
-  apart_since : (cs : List Call) (a now : Area) → Runs cs a now → Held n (said a) → some_own n is_parting cs ≡ true → Standing n IsApart now
+  apart_since :
+      (cs : List Call) (a now : Area) → Runs cs a now → Held n (said a) →
+      some_own n is_parting cs ≡ true → Standing n IsApart now
   apart_since [] a now runs held so = absurd (false≢true so)
   apart_since (d ∷ cs) a now runs held so =
       ⊎_elim
@@ -97,11 +84,14 @@ by_kind : (p : Phase) → is_apart p ≡ true → (k : Kind) × (p ≡ phase.Apa
 by_kind (phase.Apart k) is = (k, refl)
 by_kind p is = absurd (false≢true is)
 
-pub apart : (a : Area) (c : Comparison a) → ApartAndHolder c → (k : Kind) × ((said c.now).phase ≡ phase.Apart k)
+pub apart :
+    (a : Area) (c : Comparison a) → ApartAndHolder c → (k : Kind) × ((said c.now).phase ≡ phase.Apart k)
 apart a c on = by_kind c.now.phase (stands_now c.claim (λ x. is_apart x.phase ≡ true) c.now (apart_since c.claim c.since c.begun c.now c.goes_on (started_held c) on.parted) on.holder)
 
 -- while it is apart, the broken pair of a comparison of the two schemas has a document
-not_lacking : (g : Handed) (a : Area) (k : Kind) → a.phase ≡ phase.Apart k → GrownFor g a → NoDocument (first_automaton g) (second_automaton g) (said a) → ⊥
+not_lacking :
+    (g : Handed) (a : Area) (k : Kind) → a.phase ≡ phase.Apart k → GrownFor g a →
+    NoDocument (first_automaton g) (second_automaton g) (said a) → ⊥
 unfolding HasDocument
 not_lacking g a k apart grown lacks =
     let A = first_automaton g in
@@ -122,10 +112,12 @@ module _ {a : Area} (c : Comparison a) where
       let U = c.schemas.second in
       let after = (started_so c).does.1.after in
       let begun : Noted T U (said c.begun) = record { symbols = ap (λ (x : Work). x.symbols) after; firsts = ap (λ (x : Work). x.firsts) after; seconds = ap (λ (x : Work). x.seconds) after } in
-      stands_now c.claim (λ x. Noted T U (said x)) c.now (stands_along c.claim (λ x. Noted T U (said x)) (noted_on c.claim T U) c.since c.begun c.now c.goes_on (inl (started_held c, begun))) on.holder
+      stands_now c.claim (NotedIn T U) c.now (stands_along c.claim (NotedIn T U) (noted_on T U c.claim) c.since c.begun c.now c.goes_on (inl (started_held c, begun))) on.holder
 
   -- so nothing is refused before a document is looked for
-  not_early : ApartAndHolder c → (e : Refusal) → (r : DocumentRefused c e) → early_refusal (said c.now) r.handed.first r.handed.second c.claim r.slots r.levels ≡ None
+  not_early :
+      ApartAndHolder c → (e : Refusal) → (r : DocumentRefused c e) →
+      early_refusal (said c.now) r.handed.first r.handed.second c.claim r.slots r.levels ≡ None
   not_early on e r =
       let T = c.schemas.first in
       let U = c.schemas.second in
@@ -136,7 +128,9 @@ module _ {a : Area} (c : Comparison a) where
       let none = nothing_early w c.claim T U there.0 r.slots r.levels may.0 (same_symbols w T U (said c.at) may.1) (now_noted on) (holder_held w c.claim on.holder) there.1 r.enough_slots r.enough_levels in
       ap₂ (λ (T : Tables) (U : Tables). early_refusal w T U c.claim r.slots r.levels) (sym r.same.first) (sym r.same.second) ∙ none
 
-pub documented : (a : Area) (c : Comparison a) → StepsOverItsOwn c → ApartAndHolder c → (e : Refusal) → DocumentRefused c e → e.fault ≡ Room
+pub documented :
+    (a : Area) (c : Comparison a) → StepsOverItsOwn c → ApartAndHolder c → (e : Refusal) →
+    DocumentRefused c e → e.fault ≡ Room
 documented a c over on e r =
     let there = apart a c on in
     let grown = grown_same c.schemas r.handed c.now r.same (now_grown c over on.holder) in

@@ -1,5 +1,6 @@
 -- What a call does with an area, in one of a few ways. Assumes nothing.
-use Rattle.std.proofs.Common.{◌≡◌, ℕ, Bool, true, false, cond, ◌⊎◌, Ok, Err, sym, refl, subst, inl, inr}
+use Rattle.std.proofs.Common.{◌≡◌, ℕ, zero, suc, ap, ◌∙◌, Bool, true, false, cond, ◌⊎◌, Ok, Err, sym, refl, subst, inl, inr}
+use Rattle.schema.specs.Automata.{Automaton}
 use Rattle.compare.specs.declared.area.Area.{Area}
 use Rattle.compare.specs.declared.claim.Apart.{Apart}
 use Rattle.compare.specs.declared.claim.Comparing.{Comparing}
@@ -13,7 +14,7 @@ use Rattle.compare.specs.declared.phase.Phase.TheVariants as phase
 use Rattle.compare.specs.Beginning.{Beginning}
 use Rattle.compare.specs.Concluding.{Conclusion, GivingUp}
 use Rattle.compare.specs.Stepping.{Turns, Stepping}
-use Rattle.compare.specs.Work.{said, free, in_phase, is_free, held_by}
+use Rattle.compare.specs.Work.{Work, said, free, in_phase, is_free, held_by}
 use Rattle.history.specs.Calls.{Handed, first_automaton, second_automaton, Call, take_up, oust, step, conclude, give_up, Does, are, is_made_with, is_inclusion, is_giving_up, is_ousting, granted_by, told_by, Starts}
 use Rattle.history.specs.Comparisons.{Comparison}
 use Rattle.history.proofs.Permits.{Held, held_by_near, claim_permitted, step_permitted, begin_permitted, take_free}
@@ -72,7 +73,10 @@ pub data Effect (d : Call) (a a' : Area) : Type 0 where
 given_up : (m : Numbers) (k : ℕ) (a a' : Area) → GivingUp a m (Ok k) a' → Effect (give_up m (Ok k)) a a'
 given_up m k a a' does = by (held_by (said a) m.serial) refl does.1
   where
-    by : (b : Bool) → held_by (said a) m.serial ≡ b → cond b ((k ≡ 1) × (said a' ≡ free a.number a.serial)) ((k ≡ 0) × (a' ≡ a)) → Effect (give_up m (Ok k)) a a'
+    by :
+        (b : Bool) → held_by (said a) m.serial ≡ b →
+        cond b ((k ≡ 1) × (said a' ≡ free a.number a.serial)) ((k ≡ 0) × (a' ≡ a)) →
+        Effect (give_up m (Ok k)) a a'
     by true held up = ends (record { numbers = m; holder = held_by_near (said a) m does.0 held; made = λ n. refl; which = inr refl; freed = up.1 })
     by false held up = keeps (record { same = up.1; grants = λ n. refl; tells = λ n. refl })
 
@@ -88,6 +92,13 @@ effect (conclude c (Err e)) a a' does = keeps (record { same = does.2; grants = 
 effect (give_up m (Ok k)) a a' does = given_up m k a a' does
 effect d a a' does = keeps (record { same = does.1; grants = λ n. refl; tells = λ n. refl })
 
+-- no turn is taken of an area that does not run
+turns_none :
+    (A B : Automaton) (j : ℕ) (w w' : Work) → (w.phase ≡ phase.Running → ⊥) → Turns A B j w w' → w' ≡ w
+turns_none A B zero w w' still turns = turns
+turns_none A B (suc j) w w' still turns =
+    absurd (still (ap (λ (x : Work). x.phase) (sym (turns_none A B j w turns.0 still turns.1)) ∙ turns.2))
+
 module _ {d : Call} {a a' : Area} where
   -- a step is the holder's, and so is a conclusion
   pub step_holder : (s : Steps d a a') → Held s.numbers (said a)
@@ -97,8 +108,14 @@ module _ {d : Call} {a a' : Area} where
   part_holder p = (claim_permitted (said a) p.claim.numbers Conclude p.does.0).0
 
   -- a step takes turns
-  pub step_turns : (s : Steps d a a') → Turns (first_automaton s.handed) (second_automaton s.handed) s.does.1.stepped.taken (said a) (said a')
+  pub step_turns :
+      (s : Steps d a a') →
+      Turns (first_automaton s.handed) (second_automaton s.handed) s.does.1.stepped.taken (said a) (said a')
   step_turns s = s.does.1.stepped.turns
+
+  -- none where the area does not run, which then stays as it was
+  pub step_none : (s : Steps d a a') → (a.phase ≡ phase.Running → ⊥) → said a' ≡ said a
+  step_none s still = turns_none (first_automaton s.handed) (second_automaton s.handed) s.does.1.stepped.taken (said a) (said a') still (step_turns s)
 
   -- a conclusion apart changes the phase alone
   pub part_left : (p : Parts d a a') → said a' ≡ in_phase (said a) (phase.Apart p.kind)
@@ -111,7 +128,8 @@ pub record Started (g : Handed) (n : Numbers) (a a' : Area) : Type 0 where
   pub numbers : n ≡ claim.numbers
   pub does : Beginning event g.first g.second g.first_sets a (Ok claim) a'
 
-started : (d : Call) (g : Handed) (n : Numbers) (a a' : Area) → Does d a a' → Starts d g n → Started g n a a'
+started :
+    (d : Call) (g : Handed) (n : Numbers) (a a' : Area) → Does d a a' → Starts d g n → Started g n a a'
 started (take_up h (Ok c)) g n a a' does is = record { event = Take; claim = c; numbers = is.1; does = subst (λ (x : Handed). Beginning Take x.first x.second x.first_sets a (Ok c) a') (sym is.0) does }
 started (oust h (Ok c)) g n a a' does is = record { event = Oust; claim = c; numbers = is.1; does = subst (λ (x : Handed). Beginning Oust x.first x.second x.first_sets a (Ok c) a') (sym is.0) does }
 started d g n a a' does is = absurd is

@@ -1,4 +1,5 @@
--- The example is a history: the area after each of its calls, and what each call does. Assumes nothing.
+-- The example is a history: the area after each of its calls, and what each call does. Assumes
+-- nothing.
 use Rattle.std.proofs.Common.{◌≡◌, ℕ, zero, suc, ◌+◌, ◌^◌, ◌<◌, ◌≤◌, Bool, true, false, ◌&&◌, ◌||◌, eqb, inr, List, [], ◌∷◌, length, replicate, get_or, take, None, Ok, sym, refl, ap, ◌∙◌, subst, lit<, arith}
 use Rattle.std.proofs.lemmas.List.{length-replicate, get_or-replicate}
 use Rattle.std.proofs.lemmas.Bool.{ne_eqb}
@@ -85,7 +86,9 @@ module _ (a : Area) (made : said a ≡ free 7 0) where
   said_free serial = ap (λ (w : Work). record { number = 7; serial = serial; phase = phase.Free; symbols = 0; firsts = w.firsts; seconds = w.seconds; pairs = w.pairs; examined = 0 }) made
 
   -- a comparison of U and V begins on a free area
-  begins : (x : Area) (serial : ℕ) → said x ≡ free 7 serial → begin_refusal (free 7 serial) U V Take ≡ None → Does (take_up (pair_of U V) (Ok (claim (serial + 1)))) x (listing (serial + 1) phase.Running 0)
+  begins :
+      (x : Area) (serial : ℕ) → said x ≡ free 7 serial → begin_refusal (free 7 serial) U V Take ≡ None →
+      Does (take_up (pair_of U V) (Ok (claim (serial + 1)))) x (listing (serial + 1) phase.Running 0)
   begins x serial is may =
       subst (λ (w : Work). (begin_refusal w U V Take ≡ None) × Begins U V zero_alone w (claim (serial + 1)) (said (listing (serial + 1) phase.Running 0))) (sym is)
       (may, record { live = true; decides = (λ yes. alone_U, λ alive. refl); after = refl; number = refl; serial = refl })

@@ -1,6 +1,6 @@
 -- Whether an area is a comparison's: the comparison holds it, or is gone from it for good. Assumes
 -- nothing.
-use Rattle.std.proofs.Common.{◌≡◌, ℕ, zero, suc, ◌+◌, ◌<◌, ◌≤◌, Bool, true, false, cond, eqb, ◌⊎◌, List, [], ◌∷◌, Ok, sym, refl, ap, ◌∙◌, subst, inl, inr, ⊎_elim, arith}
+use Rattle.std.proofs.Common.{◌≡◌, ℕ, zero, suc, ◌+◌, ◌<◌, ◌≤◌, Bool, true, false, cond, eqb, ◌⊎◌, List, [], ◌∷◌, length, Ok, sym, refl, ap, ◌∙◌, subst, inl, inr, ⊎_elim, arith}
 use Rattle.std.specs.List.{list_any}
 use Rattle.std.proofs.lemmas.Bool.{and_from, and_parts, both_ways, eq-eqb, eqb-true, not-true, or_cases, false≢true}
 use Rattle.schema.specs.Automata.{Automaton}
@@ -13,7 +13,9 @@ use Rattle.compare.specs.declared.event.Event.TheVariants.{Take, Oust}
 use Rattle.compare.specs.declared.phase.Phase.TheVariants as phase
 use Rattle.compare.specs.declared.phase.Verdict.TheVariants as verdict
 use Rattle.compare.specs.Beginning.{Beginning}
-use Rattle.compare.specs.Stepping.{Turn, Turns}
+use Rattle.compare.specs.declared.pairs.Listed.{Listed}
+use Rattle.compare.specs.declared.phase.Phase.{Phase}
+use Rattle.compare.specs.Stepping.{going_on, with_nexts, Turn, Turns}
 use Rattle.compare.specs.Strangers.{is_holder}
 use Rattle.compare.specs.Work.{Work, said, is_free, held_by}
 use Rattle.history.specs.Calls.{Handed, first_automaton, second_automaton, Call, take_up, oust, Does, Runs, are, is_beginning, is_made_with}
@@ -52,21 +54,52 @@ module _ (n : Numbers) where
       let parts = and_parts _ (eqb n.serial w.serial) held in
       not_holders w n gone (record { number = gone.number; serial = sym (eqb-true n.serial w.serial parts.1); busy = not-true _ parts.0 }) (these n refl)
 
--- what neither a step nor a conclusion apart changes: number and serial, and that there is a comparison
-record Onward (w w' : Work) : Type 0 where
-  number : w'.number ≡ w.number
-  serial : w'.serial ≡ w.serial
-  busy : is_free w.phase ≡ false → is_free w'.phase ≡ false
+-- what a step and a conclusion apart keep: all that is said of the area, but for the phase, the list and
+-- the count of examined pairs, which does not fall; and that there is a comparison
+pub record Onward (w w' : Work) : Type 0 where
+  pub number : w'.number ≡ w.number
+  pub serial : w'.serial ≡ w.serial
+  pub symbols : w'.symbols ≡ w.symbols
+  pub firsts : w'.firsts ≡ w.firsts
+  pub seconds : w'.seconds ≡ w.seconds
+  pub examined : w.examined ≤ w'.examined
+  pub busy : is_free w.phase ≡ false → is_free w'.phase ≡ false
+
+-- the area with another phase, list and count
+onward_to :
+    (w : Work) (p : Phase) (es : List Listed) (k : ℕ) (w' : Work) → is_free p ≡ false → w.examined ≤ k →
+    w' ≡ record w { phase = p; pairs = es; examined = k } → Onward w w'
+onward_to w p es k w' busy more is =
+    subst (Onward w) (sym is)
+    (record { number = refl; serial = refl; symbols = refl; firsts = refl; seconds = refl; examined = more; busy = λ b. busy })
+
+onward_same : (w : Work) → Onward w w
+onward_same w =
+    record { number = refl; serial = refl; symbols = refl; firsts = refl; seconds = refl; examined = omega arith; busy = λ b. b }
+
+onward_twice : (w v w' : Work) → Onward w v → Onward v w' → Onward w w'
+onward_twice w v w' first second =
+    record {
+      number = second.number ∙ first.number;
+      serial = second.serial ∙ first.serial;
+      symbols = second.symbols ∙ first.symbols;
+      firsts = second.firsts ∙ first.firsts;
+      seconds = second.seconds ∙ first.seconds;
+      examined = omega (arith, first.examined, second.examined);
+      busy = λ b. second.busy (first.busy b);
+    }
 
 module _ (A B : Automaton) where
   turn_onward : (w w' : Work) → Turn A B w w' → Onward w w'
   turn_onward w w' turn =
       ⊎_elim
-      (λ none. record { number = ap (λ (x : Work). x.number) none.1; serial = ap (λ (x : Work). x.serial) none.1; busy = λ b. ap (λ (x : Work). is_free x.phase) none.1 })
+      (λ none. onward_to w (phase.Ready verdict.Included) w.pairs w.examined w' refl (omega arith) none.1)
       (λ one.
       ⊎_elim
-      (λ broken. record { number = ap (λ (x : Work). x.number) broken.2; serial = ap (λ (x : Work). x.serial) broken.2; busy = λ b. ap (λ (x : Work). is_free x.phase) broken.2 })
-      (λ on. record { number = ap (λ (x : Work). x.number) on.1.2; serial = ap (λ (x : Work). x.serial) on.1.2; busy = λ b. ap (λ (x : Work). is_free x.phase) on.1.2 ∙ going (eqb (w.examined + 1) _) })
+      (λ broken. onward_to w (phase.Ready (verdict.Apart broken.0)) w.pairs (w.examined + 1) w' refl (omega arith) broken.2)
+      (λ on.
+      let es = with_nexts A B on.1.0 one.pair.first one.pair.second w.examined w.symbols w.pairs in
+      onward_to w (going_on (w.examined + 1) es) es (w.examined + 1) w' (going (eqb (w.examined + 1) (length es))) (omega arith) on.1.2)
       one.outcome)
       turn
     where
@@ -75,25 +108,25 @@ module _ (A B : Automaton) where
       going false = refl
 
   turns_onward : (k : ℕ) (w w' : Work) → Turns A B k w w' → Onward w w'
-  turns_onward zero w w' turns = record { number = ap (λ (x : Work). x.number) turns; serial = ap (λ (x : Work). x.serial) turns; busy = λ b. ap (λ (x : Work). is_free x.phase) turns ∙ b }
+  turns_onward zero w w' turns = subst (Onward w) (sym turns) (onward_same w)
   turns_onward (suc k) w w' turns =
-      let v = turns_onward k w turns.0 turns.1 in
-      let on = turn_onward turns.0 w' turns.3 in
-      record { number = on.number ∙ v.number; serial = on.serial ∙ v.serial; busy = λ b. on.busy (v.busy b) }
+      onward_twice w turns.0 w' (turns_onward k w turns.0 turns.1) (turn_onward turns.0 w' turns.3)
 
 module _ {d : Call} {a a' : Area} where
-  step_onward : Steps d a a' → Onward (said a) (said a')
+  pub step_onward : Steps d a a' → Onward (said a) (said a')
   step_onward s = turns_onward (first_automaton s.handed) (second_automaton s.handed) s.does.1.stepped.taken (said a) (said a') (step_turns s)
 
-  part_onward : Parts d a a' → Onward (said a) (said a')
-  part_onward p = record { number = ap (λ (x : Work). x.number) (part_left p); serial = ap (λ (x : Work). x.serial) (part_left p); busy = λ b. ap (λ (x : Work). is_free x.phase) (part_left p) }
+  pub part_onward : (p : Parts d a a') → Onward (said a) (said a')
+  part_onward p = onward_to (said a) (phase.Apart p.kind) (said a).pairs a.examined (said a') refl (omega arith) (part_left p)
 
 module _ (n : Numbers) (a a' : Area) where
   held_onward : Onward (said a) (said a') → Held n (said a) → Held n (said a')
   held_onward on held = record { number = on.number ∙ held.number; serial = on.serial ∙ held.serial; busy = on.busy held.busy }
 
   -- another comparison's step or conclusion
-  gone_onward : (m : Numbers) → Held m (said a) → (said a').number ≡ (said a).number → (said a').serial ≡ (said a).serial → Gone n (said a) → Gone n (said a')
+  gone_onward :
+      (m : Numbers) → Held m (said a) → (said a').number ≡ (said a).number →
+      (said a').serial ≡ (said a).serial → Gone n (said a) → Gone n (said a')
   gone_onward m h near still gone =
       record {
         number = near ∙ gone.number;
@@ -101,7 +134,10 @@ module _ (n : Numbers) (a a' : Area) where
       }
 
   -- a beginning gives the area the next serial
-  begun_gone : (e : Event) (h : Handed) (claim : Lease Comparing) → Beginning e h.first h.second h.first_sets a (Ok claim) a' → (said a).number ≡ n.area → n.serial ≤ (said a).serial → Gone n (said a')
+  begun_gone :
+      (e : Event) (h : Handed) (claim : Lease Comparing) →
+      Beginning e h.first h.second h.first_sets a (Ok claim) a' → (said a).number ≡ n.area →
+      n.serial ≤ (said a).serial → Gone n (said a')
   begun_gone e h claim does near low =
       record { number = ap (λ (x : Work). x.number) does.1.after ∙ near; past = inl (omega (arith, low, ap (λ (x : Work). x.serial) does.1.after)) }
 
@@ -158,9 +194,12 @@ module _ (n : Numbers) (P : Area → Type 0) where
   stands_now a (inl now) so = now.1
   stands_now a (inr gone) so = absurd (not_holder n (said a) gone so)
 
-  -- what a call makes of this, from what it makes of it where it keeps the area, where it is a step of
-  -- its own, and where it concludes apart
-  pub stands_on : (P' : Area → Type 0) {d : Call} {a a' : Area} → (Keeps d a a' → P a → P' a') → ((s : Steps d a a') → are n s.numbers ≡ true → P a → P' a') → (Parts d a a' → P a → P' a') → Effect d a a' → Standing n P a → Standing n P' a'
+  -- what a call makes of this, from what it makes of it where it keeps the area, where it is a step
+  -- of its own, and where it concludes apart
+  pub stands_on :
+      (P' : Area → Type 0) {d : Call} {a a' : Area} → (Keeps d a a' → P a → P' a') →
+      ((s : Steps d a a') → are n s.numbers ≡ true → P a → P' a') → (Parts d a a' → P a → P' a') →
+      Effect d a a' → Standing n P a → Standing n P' a'
   stands_on P' kept stepped parted e (inr gone) = inr (gone_on n e gone)
   stands_on P' kept stepped parted (keeps k) (inl now) = inl (subst (λ (x : Area). Held n (said x)) (sym k.same) now.0, kept k now.1)
   stands_on P' kept stepped parted (begins b) (inl now) = inr (begin_ends n b now.0)
@@ -169,7 +208,9 @@ module _ (n : Numbers) (P : Area → Type 0) where
   stands_on P' kept stepped parted (ends e) (inl now) = inr (end_ends n e now.0)
 
   -- what each call keeps, a list of calls keeps
-  pub stands_along : ((d : Call) (a a' : Area) → Effect d a a' → Standing n P a → Standing n P a') → (cs : List Call) (a now : Area) → Runs cs a now → Standing n P a → Standing n P now
+  pub stands_along :
+      ((d : Call) (a a' : Area) → Effect d a a' → Standing n P a → Standing n P a') →
+      (cs : List Call) (a now : Area) → Runs cs a now → Standing n P a → Standing n P now
   stands_along on [] a now runs stands = subst (Standing n P) (sym runs) stands
   stands_along on (d ∷ cs) a now runs stands = stands_along on cs runs.0 now runs.2 (on d a runs.0 (effect d a runs.0 runs.1) stands)
 
@@ -180,13 +221,17 @@ module _ (n : Numbers) where
   run_gone (d ∷ cs) a now runs gone = run_gone cs runs.0 now runs.2 (gone_on n (effect d a runs.0 runs.1) gone)
 
   -- a call that begins another one ends it
-  beginning_ends : (d : Call) (a a' : Area) → is_beginning d ≡ true → Does d a a' → Held n (said a) → Gone n (said a')
+  beginning_ends :
+      (d : Call) (a a' : Area) → is_beginning d ≡ true → Does d a a' → Held n (said a) →
+      Gone n (said a')
   beginning_ends (take_up h (Ok c)) a a' so does held = begun_gone n a a' Take h c does held.number (omega (arith, held.serial))
   beginning_ends (oust h (Ok c)) a a' so does held = begun_gone n a a' Oust h c does held.number (omega (arith, held.serial))
   beginning_ends d a a' so does held = absurd (false≢true so)
 
   -- where another comparison began, it has ended
-  pub run_begun : (cs : List Call) (a now : Area) → Runs cs a now → Held n (said a) → list_any is_beginning cs ≡ true → Gone n (said now)
+  pub run_begun :
+      (cs : List Call) (a now : Area) → Runs cs a now → Held n (said a) →
+      list_any is_beginning cs ≡ true → Gone n (said now)
   run_begun [] a now runs held so = absurd (false≢true so)
   run_begun (d ∷ cs) a now runs held so =
       ⊎_elim

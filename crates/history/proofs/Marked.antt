@@ -1,5 +1,5 @@
--- The marked cases, shown: what U, V and W accept, what comparing two of them comes to, and its documents.
--- Assumes nothing.
+-- The marked cases, shown: what U, V and W accept, what comparing two of them comes to, and its
+-- documents. Assumes nothing.
 use Rattle.std.proofs.Common.{◌≡◌, ℕ, zero, suc, ◌≤◌, Bool, true, false, ltb, inl, inr, List, [], ◌∷◌, Some, None, Decides, sym, refl, ap, ◌∙◌, subst, ⊎_elim, lit<, arith}
 use Rattle.std.proofs.lemmas.Bool.{both_ways, cond-false, le-ltb, false≢true}
 use Rattle.std.proofs.lemmas.Option.{none-some, same_Some}
@@ -76,7 +76,9 @@ one_child = (refl, ((0, refl, alone_V), tt))
 first_refused : First (λ u. LiveSequence (over_zero V) 0 u × (allowed (over_zero U) 0 u ≡ false)) (0 ∷ [])
 first_refused = record { passes = (one_child, refl); least = least }
   where
-    least : (v : List ℕ) → LiveSequence (over_zero V) 0 v × (allowed (over_zero U) 0 v ≡ false) → NoLater (0 ∷ []) v
+    least :
+        (v : List ℕ) → LiveSequence (over_zero V) 0 v × (allowed (over_zero U) 0 v ≡ false) →
+        NoLater (0 ∷ []) v
     least [] p = absurd (both_ways (allowed (over_zero U) 0 []) p.1 refl)
     least (a ∷ []) p = inr (refl, inl (ap (λ (x : ℕ). x ∷ []) (sym (only_zero a p.0.1.0.0 p.0.1.0.1))))
     least (a ∷ (b ∷ v)) p = inl (omega arith)
@@ -110,7 +112,9 @@ u_w_document =
     }
 
 -- a step of a running area whose first turn brings the verdict
-pub one_turn : (A B : Automaton) (w w' : Work) (v : Verdict) (n : ℕ) → w.phase ≡ Running → Examines A B w w' → w'.phase ≡ Ready v → 1 ≤ n → Stepped A B n w w'
+pub one_turn :
+    (A B : Automaton) (w w' : Work) (v : Verdict) (n : ℕ) → w.phase ≡ Running → Examines A B w w' →
+    w'.phase ≡ Ready v → 1 ≤ n → Stepped A B n w w'
 one_turn A B w w' v n runs examines ready some =
     record {
       taken = 1;
@@ -120,7 +124,9 @@ one_turn A B w w' v n runs examines ready some =
     }
 
 -- U's pair with V is unbroken, and no symbol is live at U's state
-pub u_v_examined : (w : Work) → Examines (over_zero U) (over_zero V) (begun w U V true) (examined_to (begun w U V true) (start ∷ []) (Ready Included))
+pub u_v_examined :
+    (w : Work) →
+    Examines (over_zero U) (over_zero V) (begun w U V true) (examined_to (begun w U V true) (start ∷ []) (Ready Included))
 u_v_examined w = record { pair = start; at = refl; outcome = inr (unbroken, ((λ a. false), dead_symbols, refl)) }
   where
     unbroken : Unbroken (over_zero U) (over_zero V) 0 0
@@ -130,7 +136,9 @@ u_v_examined w = record { pair = start; at = refl; outcome = inr (unbroken, ((λ
     dead_symbols a = (λ no. absurd (false≢true no), λ live. absurd (none-some _ (sym (nowhere a) ∙ (live_leads (over_zero U) 0 a live).1)))
 
 -- a pair (0, 0) that is broken in content
-pub broken_examined : (S T : Tables) (w : Work) → Broken (over_zero S) (over_zero T) Content 0 0 → Examines (over_zero S) (over_zero T) (begun w S T true) (examined_to (begun w S T true) (start ∷ []) (Ready (Apart Content)))
+pub broken_examined :
+    (S T : Tables) (w : Work) → Broken (over_zero S) (over_zero T) Content 0 0 →
+    Examines (over_zero S) (over_zero T) (begun w S T true) (examined_to (begun w S T true) (start ∷ []) (Ready (Apart Content)))
 broken_examined S T w broken = record { pair = start; at = refl; outcome = inl (Content, broken, refl) }
 
 pub v_u_broken : Broken (over_zero V) (over_zero U) Content 0 0
@@ -144,10 +152,14 @@ module _ (S T : Tables) where
     stepped : Stepped (over_zero S) (over_zero T) MOST_STEPS (begun w S T live) after
     verdict : after.phase ≡ Ready v
     count : after.examined ≡ n
-    kind : (j k : Kind) → after.phase ≡ Ready (Apart j) → LastBroken (over_zero S) (over_zero T) after k → v ≡ Apart k
+    kind :
+        (j k : Kind) → after.phase ≡ Ready (Apart j) → LastBroken (over_zero S) (over_zero T) after k →
+        v ≡ Apart k
 
   -- there is no other one
-  settled : (live : Bool) (v : Verdict) (n : ℕ) → Decides live (Live (over_zero S) 0) → ((w : Work) → Outcome live v n w) → ComesTo S T v n
+  settled :
+      (live : Bool) (v : Verdict) (n : ℕ) → Decides live (Live (over_zero S) 0) →
+      ((w : Work) → Outcome live v n w) → ComesTo S T v n
   settled live v n decides outcome =
       record {
         some = λ w. ((outcome w).after, record { live = live; decides = decides; stepped = (outcome w).stepped });
@@ -165,14 +177,19 @@ module _ (S T : Tables) where
           (one_stepped (over_zero S) (over_zero T) MOST_STEPS (begun w S T live) o.after w' o.stepped other)
 
   -- the pair (0, 0) is broken in content alone
-  broken_once : Live (over_zero S) 0 → Broken (over_zero S) (over_zero T) Content 0 0 → ((v : ℕ) → (over_zero S).has 0 v ≡ true → (over_zero T).has 0 v ≡ true) → ComesTo S T (Apart Content) 1
+  broken_once :
+      Live (over_zero S) 0 → Broken (over_zero S) (over_zero T) Content 0 0 →
+      ((v : ℕ) → (over_zero S).has 0 v ≡ true → (over_zero T).has 0 v ≡ true) →
+      ComesTo S T (Apart Content) 1
   broken_once alive broken values =
       settled true (Apart Content) 1 (λ yes. alive, λ live. refl)
       (λ w.
       let after = examined_to (begun w S T true) (start ∷ []) (Ready (Apart Content)) in
       record { after = after; stepped = one_turn (over_zero S) (over_zero T) (begun w S T true) after (Apart Content) MOST_STEPS refl (broken_examined S T w broken) refl (omega arith); verdict = refl; count = refl; kind = λ j k apart last. by k last.pair (same_Some _ _ last.at) last.broken })
     where
-      by : (k : Kind) (pair : Listed) → start ≡ pair → Broken (over_zero S) (over_zero T) k pair.first pair.second → Apart Content ≡ Apart k
+      by :
+          (k : Kind) (pair : Listed) → start ≡ pair →
+          Broken (over_zero S) (over_zero T) k pair.first pair.second → Apart Content ≡ Apart k
       by Content pair same b = refl
       by Value pair same b =
           let here : Broken (over_zero S) (over_zero T) Value 0 0 = subst (λ (y : Listed). Broken (over_zero S) (over_zero T) Value y.first y.second) (sym same) b in

@@ -1,4 +1,5 @@
--- The marked gap of two joint domains, and the marked ranges: those refused and those taken. Assumes nothing.
+-- The marked gap of two joint domains, and the marked ranges: those refused and those taken.
+-- Assumes nothing.
 use Rattle.std.proofs.Common.{◌≡◌, ℕ, zero, suc, ◌+◌, ◌-◌, ◌<◌, ◌≤◌, Bool, false, cond, not, ◌&&◌, ltb, inr, [], ◌∷◌, Some, Ok, Err, refl, ap, ◌∙◌, ⊎_elim, lit<, arith}
 use Rattle.std.proofs.lemmas.Bool.{cases_lt, cond-true, le-ltb, lt-ltb, and_left, and_right}
 use Rattle.std.proofs.lemmas.Bool.Decides.{nat_tests}
@@ -27,7 +28,9 @@ joint_gap = record { value = lit< tt; passes = refl; before = before }
     right : (x : ℕ) → x < 90 → (letters (from_to 65 90) x && not (letters (from_to 65 89) x)) ≡ false
     right x low = grind (arith, nat_tests)
 
-    before : (v : ℕ) → v < 2147483738 → alone (just_letters (from_to 65 90)) (just_letters (from_to 65 89)) v ≡ false
+    before :
+        (v : ℕ) → v < 2147483738 →
+        alone (just_letters (from_to 65 90)) (just_letters (from_to 65 89)) v ≡ false
     before v low =
         ⊎_elim
         (λ small. and_left _ _ (left v small))

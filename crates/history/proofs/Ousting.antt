@@ -24,7 +24,10 @@ use Rattle.history.proofs.Permits.{Held, holder_held, held_holder}
 
 module _ (n : Numbers) where
   -- neither ousted, given up nor concluded included, it holds the area on
-  held_through : (cs : List Call) (a now : Area) → Runs cs a now → Held n (said a) → list_any is_ousting cs ≡ false → some_own n is_giving_up cs ≡ false → some_own n is_inclusion cs ≡ false → Held n (said now)
+  held_through :
+      (cs : List Call) (a now : Area) → Runs cs a now → Held n (said a) →
+      list_any is_ousting cs ≡ false → some_own n is_giving_up cs ≡ false →
+      some_own n is_inclusion cs ≡ false → Held n (said now)
   held_through [] a now runs held safe kept apart = subst (λ (x : Area). Held n (said x)) (sym runs) held
   held_through (d ∷ cs) a now runs held safe kept apart =
       let unousted = or_parts (is_ousting d) (list_any is_ousting cs) safe in
@@ -32,7 +35,9 @@ module _ (n : Numbers) where
       let unincluded = or_parts (is_made_with n d && is_inclusion d) (some_own n is_inclusion cs) apart in
       held_through cs runs.0 now runs.2 (by unousted.0 ungiven.0 unincluded.0 (effect d a runs.0 runs.1)) unousted.1 ungiven.1 unincluded.1
     where
-      by : is_ousting d ≡ false → (is_made_with n d && is_giving_up d) ≡ false → (is_made_with n d && is_inclusion d) ≡ false → Effect d a runs.0 → Held n (said runs.0)
+      by :
+          is_ousting d ≡ false → (is_made_with n d && is_giving_up d) ≡ false →
+          (is_made_with n d && is_inclusion d) ≡ false → Effect d a runs.0 → Held n (said runs.0)
       by unousted ungiven unincluded (keeps k) = subst (λ (x : Area). Held n (said x)) (sym k.same) held
       by unousted ungiven unincluded (begins b) = absurd (⊎_elim (both_ways (is_ousting d) unousted) (both_ways (is_free a.phase) held.busy) b.how)
       by unousted ungiven unincluded (steps s) = held_step n s held
@@ -50,16 +55,20 @@ module _ (n : Numbers) where
   accepted x e is = false≢true (sym (ap is_ok is))
 
   -- the refusal of a claim of this area that is not the holder's is `ousted`
-  says_ousted : (w : Work) (m : Numbers) → w.number ≡ n.area → are n m ≡ true → (stranger w m).fault ≡ Ousted
+  says_ousted :
+      (w : Work) (m : Numbers) → w.number ≡ n.area → are n m ≡ true → (stranger w m).fault ≡ Ousted
   says_ousted w m near its = cond-true (eqb m.area w.number) Ousted Foreign (eq-eqb m.area w.number ((are_these n m its).0 ∙ sym near))
 
-  gives_none : (m : Numbers) (a a' : Area) (r : Result ℕ Refusal) → GivingUp a m r a' → Gone n (said a) → are n m ≡ true → r ≡ Ok 0
+  gives_none :
+      (m : Numbers) (a a' : Area) (r : Result ℕ Refusal) → GivingUp a m r a' → Gone n (said a) →
+      are n m ≡ true → r ≡ Ok 0
   unfolding GivingUpOfStranger
   gives_none m a a' r does gone its =
       (giving_up_of_stranger a m r a' does (not_held (said a) m gone its)).0
       ∙ cond-true (eqb m.area a.number) (Ok 0) _ (eq-eqb m.area a.number ((are_these n m its).0 ∙ sym gone.number))
 
-  turned_away : (d : Call) (a a' : Area) → Does d a a' → Gone n (said a) → is_made_with n d ≡ true → TurnedAway d
+  turned_away :
+      (d : Call) (a a' : Area) → Does d a a' → Gone n (said a) → is_made_with n d ≡ true → TurnedAway d
   unfolding StepOfStranger ConclusionOfStranger TrailOfStranger DocumentOfStranger
   turned_away (take_up h r) a a' does gone its = tt
   turned_away (oust h r) a a' does gone its = tt
@@ -85,15 +94,20 @@ module _ (n : Numbers) where
   turned_away (give_up m (Ok k)) a a' does gone its = let same = gives_none m a a' (Ok k) does gone its in cc
   turned_away (give_up m (Err e)) a a' does gone its = accepted 0 e (sym (gives_none m a a' (Err e) does gone its))
 
-pub holds : (a : Area) (c : Comparison a) → NeitherOustedNorGivenUp c → own_call c is_inclusion ≡ false → IsHolder c
+pub holds :
+    (a : Area) (c : Comparison a) → NeitherOustedNorGivenUp c → own_call c is_inclusion ≡ false →
+    IsHolder c
 holds a c on apart = held_holder (said c.now) c.claim (held_through c.claim c.since c.begun c.now c.goes_on (started_held c) on.unousted on.kept apart)
 
 -- where another comparison has begun, it has ended
 now_gone : {a : Area} (c : Comparison a) → AnotherBegan c → Gone c.claim (said c.now)
 now_gone c so = run_begun c.claim c.since c.begun c.now c.goes_on (started_held c) so
 
-pub ousted : (a : Area) (c : Comparison a) → AnotherBegan c → (d : Call) (a' : Area) → OwnNow c d a' → TurnedAway d
+pub ousted :
+    (a : Area) (c : Comparison a) → AnotherBegan c → (d : Call) (a' : Area) → OwnNow c d a' →
+    TurnedAway d
 ousted a c so d a' asked = turned_away c.claim d c.now a' asked.does (now_gone c so) asked.own
 
-pub unchanged : (a : Area) (c : Comparison a) → AnotherBegan c → (d : Call) (a' : Area) → OwnNow c d a' → a' ≡ c.now
+pub unchanged :
+    (a : Area) (c : Comparison a) → AnotherBegan c → (d : Call) (a' : Area) → OwnNow c d a' → a' ≡ c.now
 unchanged a c so d a' asked = gone_same c.claim (effect d c.now a' asked.does) (now_gone c so) asked.own

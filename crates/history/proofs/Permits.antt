@@ -1,5 +1,5 @@
--- Who may ask what of an area: what is not refused is asked by the holder, in a phase that lets it; and
--- what the holder asks in such a phase is not refused. Assumes nothing.
+-- Who may ask what of an area: what is not refused is asked by the holder, in a phase that lets it;
+-- and what the holder asks in such a phase is not refused. Assumes nothing.
 use Rattle.std.proofs.Common.{◌≡◌, ℕ, ◌≤◌, true, false, Bool, eqb, ltb, List, [], ◌∷◌, Some, None, Option, sym, refl, ap, ◌∙◌}
 use Rattle.std.proofs.lemmas.Bool.{and_from, and_parts, cond-false, eq-eqb, eqb-true, le-ltb, not-false, not-true, not_from_false, not_from_true}
 use Rattle.refusal.specs.declared.fault.Fault.{Fault}
@@ -47,7 +47,9 @@ pub record Noted (T U : Tables) (w : Work) : Type 0 where
 not_found : (b : Bool) (w : Work) (f : Fault) → b ≡ false → where_found b w f ≡ None
 not_found b w f is = cond-false b (Some (record { fault = f; place = w.serial })) None is
 
-then_none : (o : Option Refusal) (os : List (Option Refusal)) → o ≡ None → first_of os ≡ None → first_of (o ∷ os) ≡ None
+then_none :
+    (o : Option Refusal) (os : List (Option Refusal)) → o ≡ None → first_of os ≡ None →
+    first_of (o ∷ os) ≡ None
 then_none o os none rest = ap (λ (r : Option Refusal). first_of (r ∷ os)) none ∙ rest
 
 module _ (w : Work) (n : Numbers) where
@@ -81,14 +83,17 @@ module _ (w : Work) (n : Numbers) where
       let kept = (first_none (step_kept_from w T U n asked slots) [] (first_none (either_fault T U) _ none).1).0 in
       holder_held (holder_passed w n (held_allows w T U n (first_none (held_kept_from w T U n) _ kept).0).0)
 
-  pub document_permitted : (T U : Tables) (slots levels : ℕ) → early_refusal w T U n slots levels ≡ None → Held n w × (phase_refuses w Write ≡ None)
+  pub document_permitted :
+      (T U : Tables) (slots levels : ℕ) → early_refusal w T U n slots levels ≡ None →
+      Held n w × (phase_refuses w Write ≡ None)
   document_permitted T U slots levels none =
       let kept = (first_none (kept_from w T U n slots levels) [] (first_none (either_fault T U) _ none).1).0 in
       let held = first_none (held_kept_from w T U n) _ (first_none (write_kept_from w T U n slots) _ kept).0 in
       (holder_held (holder_passed w n (held_allows w T U n held.0).0), (first_none (phase_refuses w Write) _ held.1).0)
 
   -- the holder's conclusion of a ready area is not refused
-  pub conclusion_permitted : (v : Verdict) → Held n w → w.phase ≡ phase.Ready v → claim_refusal w n Conclude ≡ None
+  pub conclusion_permitted :
+      (v : Verdict) → Held n w → w.phase ≡ phase.Ready v → claim_refusal w n Conclude ≡ None
   conclusion_permitted v held is =
       then_none _ _ (holder_passes w n (held_holder held)) (then_none _ _ (ap (λ (p : Phase). by_phase w (decided p Conclude)) is ∙ by v) refl)
     where
@@ -96,9 +101,12 @@ module _ (w : Work) (n : Numbers) where
       by verdict.Included = refl
       by (verdict.Apart k) = refl
 
-  -- nor is its document of an area that is apart, with the schemas' counts noted and scratch enough, where no
-  -- test of the schemas finds anything
-  pub nothing_early : (T U : Tables) (k : Kind) (slots levels : ℕ) → either_fault T U ≡ None → other_symbols w T U ≡ None → Noted T U w → Held n w → w.phase ≡ phase.Apart k → ROW_PAIRS ≤ slots → LEVELS ≤ levels → early_refusal w T U n slots levels ≡ None
+  -- nor is its document of an area that is apart, with the schemas' counts noted and scratch
+  -- enough, where no test of the schemas finds anything
+  pub nothing_early :
+      (T U : Tables) (k : Kind) (slots levels : ℕ) → either_fault T U ≡ None →
+      other_symbols w T U ≡ None → Noted T U w → Held n w → w.phase ≡ phase.Apart k →
+      ROW_PAIRS ≤ slots → LEVELS ≤ levels → early_refusal w T U n slots levels ≡ None
   nothing_early T U k slots levels sound same noted held apart many deep =
       then_none _ _ sound (then_none _ _ (then_none _ _ (then_none _ _ asked (then_none _ _ writes (then_none _ _ slots_suffice refl))) (then_none _ _ levels_suffice refl)) refl)
     where
@@ -119,7 +127,9 @@ module _ (w : Work) (n : Numbers) where
 
 module _ (w : Work) (T U : Tables) where
   -- what begins is not refused by the schemas, their symbols or the phase
-  pub begin_permitted : (e : Event) → begin_refusal w T U e ≡ None → (either_fault T U ≡ None) × (other_symbols w T U ≡ None) × (phase_refuses w e ≡ None)
+  pub begin_permitted :
+      (e : Event) → begin_refusal w T U e ≡ None →
+      (either_fault T U ≡ None) × (other_symbols w T U ≡ None) × (phase_refuses w e ≡ None)
   begin_permitted e none =
       let sound = first_none (either_fault T U) _ none in
       let kept = first_none (other_symbols w T U) _ (first_none (begin_kept_from w T U e) [] sound.1).0 in

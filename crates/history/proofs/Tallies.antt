@@ -1,7 +1,6 @@
 -- What a conclusion counts: as many pairs as the comparison's own steps have told. Assumes nothing.
-use Rattle.std.proofs.Common.{◌≡◌, ℕ, zero, suc, ◌+◌, ◌≤◌, true, List, [], ◌∷◌, Ok, sym, ap, subst, inl, ⊎_elim, arith}
+use Rattle.std.proofs.Common.{◌≡◌, ℕ, ◌+◌, true, List, [], ◌∷◌, Ok, sym, ap, subst, inl, arith}
 use Rattle.std.proofs.lemmas.Bool.{cond-true}
-use Rattle.schema.specs.Automata.{Automaton}
 use Rattle.compare.specs.declared.area.Area.{Area}
 use Rattle.compare.specs.declared.claim.Comparing.{Comparing}
 use Rattle.compare.specs.declared.claim.Lease.{Lease}
@@ -9,27 +8,13 @@ use Rattle.compare.specs.declared.claim.Numbers.{Numbers}
 use Rattle.compare.specs.declared.conclude.Concluded.{Concluded}
 use Rattle.compare.specs.declared.conclude.Concluded.TheVariants as concluded
 use Rattle.compare.specs.Concluding.{Conclusion}
-use Rattle.compare.specs.Stepping.{Turn, Turns}
-use Rattle.compare.specs.Work.{Work, said}
-use Rattle.history.specs.Calls.{first_automaton, second_automaton, Call, Runs, are, told_by, told}
+use Rattle.compare.specs.Work.{Work}
+use Rattle.history.specs.Calls.{Call, Runs, are, told_by, told}
 use Rattle.history.specs.Comparisons.{Comparison, ConcludesNow}
 use Rattle.history.specs.Law.{count_of}
-use Rattle.history.proofs.Effects.{Effect, Keeps, Steps, Parts, effect, step_turns, part_left, started_so}
-use Rattle.history.proofs.Holders.{Standing, stands_now, stands_on, started_held}
+use Rattle.history.proofs.Effects.{Effect, Keeps, Steps, Parts, effect, part_left, started_so}
+use Rattle.history.proofs.Holders.{step_onward, Standing, stands_now, stands_on, started_held}
 use Rattle.history.proofs.Verdicts.{concluder}
-
-module _ (A B : Automaton) where
-  -- a turn examines one pair, or none
-  turn_more : (w w' : Work) → Turn A B w w' → w.examined ≤ w'.examined
-  turn_more w w' turn =
-      ⊎_elim
-      (λ none. omega (arith, ap (λ (x : Work). x.examined) none.1))
-      (λ one. ⊎_elim (λ broken. omega (arith, ap (λ (x : Work). x.examined) broken.2)) (λ on. omega (arith, ap (λ (x : Work). x.examined) on.1.2)) one.outcome)
-      turn
-
-  turns_more : (k : ℕ) (w w' : Work) → Turns A B k w w' → w.examined ≤ w'.examined
-  turns_more zero w w' turns = omega (arith, ap (λ (x : Work). x.examined) turns)
-  turns_more (suc k) w w' turns = omega (arith, turns_more k w turns.0 turns.1, turn_more turns.0 w' turns.3)
 
 module _ (n : Numbers) where
   -- it holds the area, with so many pairs examined; or it has ended
@@ -46,24 +31,28 @@ module _ (n : Numbers) where
       stepped : (s : Steps d a a') → are n s.numbers ≡ true → a.examined ≡ k → a'.examined ≡ k + told_by n d
       stepped s its so =
           let tells : told_by n d ≡ s.answer.0 = subst (λ (x : Call). told_by n x ≡ s.answer.0) (sym s.is) (cond-true (are n s.numbers) s.answer.0 0 its) in
-          let more = turns_more (first_automaton s.handed) (second_automaton s.handed) s.does.1.stepped.taken (said a) (said a') (step_turns s) in
-          omega (arith, so, tells, s.does.1.count, more)
+          omega (arith, so, tells, s.does.1.count, (step_onward s).examined)
 
       parted : Parts d a a' → a.examined ≡ k → a'.examined ≡ k + told_by n d
       parted p so = omega (arith, so, ap (told_by n) p.is, ap (λ (x : Work). x.examined) (part_left p))
 
-  run_tallied : (cs : List Call) (a now : Area) (k : ℕ) → Runs cs a now → Tally k a → Tally (k + told n cs) now
+  run_tallied :
+      (cs : List Call) (a now : Area) (k : ℕ) → Runs cs a now → Tally k a → Tally (k + told n cs) now
   run_tallied [] a now k runs tally = let none : k ≡ k + 0 = omega arith in subst (λ (i : ℕ). Tally i now) none (subst (Tally k) (sym runs) tally)
   run_tallied (d ∷ cs) a now k runs tally =
       let all : (k + told_by n d) + told n cs ≡ k + (told_by n d + told n cs) = omega arith in
       subst (λ (i : ℕ). Tally i now) all (run_tallied cs runs.0 now (k + told_by n d) runs.2 (tallied k d a runs.0 (effect d a runs.0 runs.1) tally))
 
 -- a conclusion counts how many pairs are examined
-counts_examined : (a a' : Area) (claim : Lease Comparing) (v : Concluded) → Conclusion a claim (Ok v) a' → count_of v ≡ a.examined
+counts_examined :
+    (a a' : Area) (claim : Lease Comparing) (v : Concluded) → Conclusion a claim (Ok v) a' →
+    count_of v ≡ a.examined
 counts_examined a a' claim (concluded.Included n) does = does.1.1
 counts_examined a a' claim (concluded.Apart k n apart) does = does.1.1
 
-pub counted : (a : Area) (c : Comparison a) → (v : Concluded) → ConcludesNow c v → count_of v ≡ told c.claim c.since
+pub counted :
+    (a : Area) (c : Comparison a) → (v : Concluded) → ConcludesNow c v →
+    count_of v ≡ told c.claim c.since
 counted a c v asked =
     let start : c.begun.examined ≡ 0 = ap (λ (x : Work). x.examined) (started_so c).does.1.after in
     let tally = run_tallied c.claim c.since c.begun c.now 0 c.goes_on (inl (started_held c, start)) in

@@ -6,7 +6,9 @@ use Rattle.compare.proofs.Grown.{same_automata}
 use Rattle.history.specs.Calls.{Handed, first_automaton, second_automaton, SameSets, Same}
 
 -- the same set is found at each place
-same_set : (ss ts : List (ℕ → Bool)) → SameSets ss ts → (i v : ℕ) → v < 2 ^ 32 → get_or ss i (λ _. false) v ≡ get_or ts i (λ _. false) v
+same_set :
+    (ss ts : List (ℕ → Bool)) → SameSets ss ts → (i v : ℕ) → v < 2 ^ 32 →
+    get_or ss i (λ _. false) v ≡ get_or ts i (λ _. false) v
 same_set [] [] same i v low = refl
 same_set [] (t ∷ ts) same i v low = absurd same
 same_set (s ∷ ss) [] same i v low = absurd same
@@ -19,7 +21,9 @@ same_values T ss ts same =
     same_automata (automaton T ss) (automaton T ts)
     (record { next = λ q a. refl; step = λ q r a. refl; ends = λ q r. refl; has = λ q v. by q v (ltb v (2 ^ 32)) refl })
   where
-    by : (q v : ℕ) (b : Bool) → ltb v (2 ^ 32) ≡ b → (b && get_or ss (domain_number T q) (λ _. false) v) ≡ (b && get_or ts (domain_number T q) (λ _. false) v)
+    by :
+        (q v : ℕ) (b : Bool) → ltb v (2 ^ 32) ≡ b →
+        (b && get_or ss (domain_number T q) (λ _. false) v) ≡ (b && get_or ts (domain_number T q) (λ _. false) v)
     by q v true low = same_set ss ts same (domain_number T q) v (ltb-true v (2 ^ 32) low)
     by q v false low = refl
 

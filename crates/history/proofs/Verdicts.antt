@@ -63,7 +63,9 @@ module _ (g : Handed) (n : Numbers) where
       parted : Parts d a a' → GrownFor g a → GrownFor g a'
       parted p grown = concludes_grown (first_automaton g) (second_automaton g) a p.claim p.kind p.count p.apart a' p.does grown
 
-  run_known : (cs : List Call) (a now : Area) → Runs cs a now → AllByRecursion (StepsOver n g) cs → Known a → Known now
+  run_known :
+      (cs : List Call) (a now : Area) → Runs cs a now → AllByRecursion (StepsOver n g) cs → Known a →
+      Known now
   run_known [] a now runs over known = subst Known (sym runs) known
   run_known (d ∷ cs) a now runs over known = run_known cs runs.0 now runs.2 over.1 (known_on d a runs.0 over.0 (effect d a runs.0 runs.1) known)
 
@@ -95,7 +97,9 @@ module _ (A B : Automaton) where
         kind = tt;
       }
 
-  apart_right : ToldApart A B 0 0 → (k : Kind) (count : ℕ) (claim : Lease parted.Apart) → ReachesBroken A B (Apart k count claim) → Right A B (Apart k count claim)
+  apart_right :
+      ToldApart A B 0 0 → (k : Kind) (count : ℕ) (claim : Lease parted.Apart) →
+      ReachesBroken A B (Apart k count claim) → Right A B (Apart k count claim)
   apart_right told k count claim broken =
       record {
         included = (λ no. absurd (false≢true no), λ all. absurd (both_ways _ told.2 (all told.0 told.1)));
@@ -104,17 +108,23 @@ module _ (A B : Automaton) where
       }
 
   -- the pair that was examined last is reached
-  last_reached : (w : Work) (k : Kind) (count : ℕ) (claim : Lease parted.Apart) → Grown A B w → w.phase ≡ phase.Ready (verdict.Apart k) → ReachesBroken A B (Apart k count claim)
+  last_reached :
+      (w : Work) (k : Kind) (count : ℕ) (claim : Lease parted.Apart) → Grown A B w →
+      w.phase ≡ phase.Ready (verdict.Apart k) → ReachesBroken A B (Apart k count claim)
   last_reached w k count claim grown is =
       let last : LastBroken A B w k = subst (Stands A B w) is grown.stands in
       let r = grown.reached (w.examined - 1) last.pair last.at in
       record { word = r.0; first = last.pair.first; second = last.pair.second; live = r.2; beside = r.3; broken = last.broken }
 
-  conclusion_right : (a a' : Area) (claim : Lease Comparing) (v : Concluded) → Grown A B (said a) → Conclusion a claim (Ok v) a' → Right A B v
+  conclusion_right :
+      (a a' : Area) (claim : Lease Comparing) (v : Concluded) → Grown A B (said a) →
+      Conclusion a claim (Ok v) a' → Right A B v
   unfolding IncludedCarries ApartTells
   conclusion_right a a' claim (Included count) grown does = included_right (included_carries A B (said a) grown does.1.0) count
   conclusion_right a a' claim (Apart k count apart) grown does = apart_right (apart_tells A B (said a) k grown (inl does.1.0)) k count apart (last_reached (said a) k count apart grown does.1.0)
 
-pub concluded : (a : Area) (c : Comparison a) → StepsOverItsOwn c → (v : Concluded) → ConcludesNow c v → Right (first_automaton c.schemas) (second_automaton c.schemas) v
+pub concluded :
+    (a : Area) (c : Comparison a) → StepsOverItsOwn c → (v : Concluded) → ConcludesNow c v →
+    Right (first_automaton c.schemas) (second_automaton c.schemas) v
 concluded a c over v asked =
     conclusion_right (first_automaton c.schemas) (second_automaton c.schemas) c.now asked.after asked.claim v (now_grown c over (concluder c v asked)) asked.does

@@ -1,6 +1,6 @@
--- What a comparison writes: once it is apart its list and its broken pair stay, so all is written along
--- one way. Assumes nothing.
-use Rattle.std.proofs.Common.{◌≡◌, ℕ, zero, suc, ◌-◌, true, false, ◌&&◌, List, [], ◌∷◌, length, Ok, is_ok, sym, refl, ap, ◌∙◌, subst, inl, inr, ⊎_elim}
+-- What a comparison writes: once it is apart its list and its broken pair stay, so all is written
+-- along one way. Assumes nothing.
+use Rattle.std.proofs.Common.{◌≡◌, ℕ, ◌-◌, true, false, ◌&&◌, List, [], ◌∷◌, length, Ok, is_ok, sym, refl, ap, ◌∙◌, subst, inl, inr, ⊎_elim}
 use Rattle.std.specs.List.{AllByRecursion, slice_get}
 use Rattle.std.proofs.lemmas.Bool.{and_parts, both_ways, or_cases, false≢true}
 use Rattle.std.proofs.lemmas.List.{length-map}
@@ -20,7 +20,6 @@ use Rattle.compare.specs.declared.phase.Phase.{Phase}
 use Rattle.compare.specs.declared.phase.Phase.TheVariants as phase
 use Rattle.compare.specs.Concluding.{claim_refusal}
 use Rattle.compare.specs.Growing.{Path, LastBroken, Stands}
-use Rattle.compare.specs.Stepping.{Turns}
 use Rattle.compare.specs.Trailing.{Trail, broken_index}
 use Rattle.compare.specs.Work.{Work, said, held_by}
 use Rattle.compare.proofs.Grown.{last_index}
@@ -32,7 +31,7 @@ use Rattle.history.specs.Calls.{Handed, first_automaton, second_automaton, Same,
 use Rattle.history.specs.Comparisons.{Comparison, own_call, StepsOverItsOwn}
 use Rattle.history.specs.Law.{TreeWritten, WritesTrail, WritesDocument, WroteBy, Wrote}
 use Rattle.history.proofs.Counting.{is_apart}
-use Rattle.history.proofs.Effects.{Effect, Keeps, Steps, Parts, effect, step_turns}
+use Rattle.history.proofs.Effects.{Effect, Keeps, Steps, Parts, effect, step_none}
 use Rattle.history.proofs.Holders.{Gone, not_held_by, not_holders, gone_on, Standing, stands_on}
 use Rattle.history.proofs.Permits.{Held, claim_permitted, document_permitted, write_apart}
 use Rattle.history.proofs.Transport.{same_first, same_second}
@@ -58,11 +57,6 @@ writer (document m h slots levels o (Ok size) o') a a' does so =
     does.0
 writer d a a' does so = absurd (false≢true so)
 
--- no turn is taken of an area that does not run
-pub turns_none : (A B : Automaton) (j : ℕ) (w w' : Work) → (w.phase ≡ phase.Running → ⊥) → Turns A B j w w' → w' ≡ w
-turns_none A B zero w w' still turns = turns
-turns_none A B (suc j) w w' still turns = absurd (still (ap (λ (x : Work). x.phase) (sym (turns_none A B j w turns.0 still turns.1)) ∙ turns.2))
-
 -- the area is apart, with this list and this broken pair
 record Fixed (k : Kind) (es : List Listed) (i : ℕ) (w : Work) : Type 0 where
   apart : w.phase ≡ phase.Apart k
@@ -83,7 +77,7 @@ module _ (n : Numbers) (k : Kind) (es : List Listed) (i : ℕ) where
       stepped : (s : Steps d a a') → are n s.numbers ≡ true → Fixed k es i (said a) → Fixed k es i (said a')
       stepped s its fixed =
           let still : a.phase ≡ phase.Running → ⊥ = λ runs. false≢true (ap is_apart (sym runs ∙ fixed.apart)) in
-          subst (Fixed k es i) (sym (turns_none (first_automaton s.handed) (second_automaton s.handed) s.does.1.stepped.taken (said a) (said a') still (step_turns s))) fixed
+          subst (Fixed k es i) (sym (step_none s still)) fixed
 
       parted : Parts d a a' → Fixed k es i (said a) → Fixed k es i (said a')
       parted p fixed = absurd (false≢true (ap is_apart (sym p.does.1.0 ∙ fixed.apart)))
@@ -101,11 +95,17 @@ module _ (g : Handed) (n : Numbers) (k : Kind) (es : List Listed) (i : ℕ) (way
   unwritten (document m h slots levels o (Ok size) o') not = (tt, λ its same. absurd (not its refl))
   unwritten d not = (tt, tt)
 
-  gone_unwritten : (d : Call) (a a' : Area) → Does d a a' → Gone n (said a) → is_made_with n d ≡ true → is_writing d ≡ true → ⊥
+  gone_unwritten :
+      (d : Call) (a a' : Area) → Does d a a' → Gone n (said a) → is_made_with n d ≡ true →
+      is_writing d ≡ true → ⊥
   gone_unwritten d a a' does gone its so = let w = writer d a a' does so in not_holders n (said a) w.numbers gone w.holds (sym (w.made n) ∙ its)
 
   -- the same document of the same schemas, list and pair
-  moved : (h : Handed) (k' : Kind) (w : Work) (v : List Listed) (t : Tree) → Same g h → w.phase ≡ phase.Apart k' → Fixed k es i w → DocumentOf (first_automaton h) (second_automaton h) k' w.pairs (broken_index w) v t → DocumentOf (first_automaton g) (second_automaton g) k es i v t
+  moved :
+      (h : Handed) (k' : Kind) (w : Work) (v : List Listed) (t : Tree) → Same g h →
+      w.phase ≡ phase.Apart k' → Fixed k es i w →
+      DocumentOf (first_automaton h) (second_automaton h) k' w.pairs (broken_index w) v t →
+      DocumentOf (first_automaton g) (second_automaton g) k es i v t
   moved h k' w v t same apart fixed d =
       subst (λ (X : Automaton). DocumentOf X (second_automaton g) k es i v t) (sym (same_first g h same))
       (subst (λ (Y : Automaton). DocumentOf (first_automaton h) Y k es i v t) (sym (same_second g h same))
@@ -114,8 +114,8 @@ module _ (g : Handed) (n : Numbers) (k : Kind) (es : List Listed) (i : ℕ) (way
       (subst (λ (j : ℕ). DocumentOf (first_automaton h) (second_automaton h) k' w.pairs j v t) fixed.index d))))
 
   module _ (leads : Way es i way) where
-    -- where the area is apart so, an accepted trail writes the way's symbols, and an accepted document
-    -- the tree along it
+    -- where the area is apart so, an accepted trail writes the way's symbols, and an accepted
+    -- document the tree along it
     fixed_writes : (d : Call) (a a' : Area) → Does d a a' → Fixed k es i (said a) → Writes d
     fixed_writes (trail m o (Ok size) o') a a' does fixed =
         let t = does.0 in
@@ -157,13 +157,17 @@ module _ (g : Handed) (n : Numbers) (k : Kind) (es : List Listed) (i : ℕ) (way
 
 module _ (g : Handed) (n : Numbers) where
   -- one call more before them, which does not write
-  wrote_later : (d : Call) (cs : List Call) (now : Area) → (is_made_with n d ≡ true → is_writing d ≡ true → ⊥) → WroteBy g n cs now → WroteBy g n (d ∷ cs) now
+  wrote_later :
+      (d : Call) (cs : List Call) (now : Area) → (is_made_with n d ≡ true → is_writing d ≡ true → ⊥) →
+      WroteBy g n cs now → WroteBy g n (d ∷ cs) now
   wrote_later d cs now not w =
       let none = unwritten g n w.kind w.pairs w.index w.way d not in
       record { pairs = w.pairs; starts = w.starts; index = w.index; entry = w.entry; at = w.at; kind = w.kind; broken = w.broken; way = w.way; leads = w.leads; live = w.live; beside = w.beside; trails = (none.0, w.trails); documents = (none.1, w.documents); apart = w.apart; listed = w.listed; breaks = w.breaks }
 
   -- from an area on that is apart
-  wrote_from : (cs : List Call) (a now : Area) (k : Kind) → Runs cs a now → Held n (said a) → GrownFor g a → a.phase ≡ phase.Apart k → WroteBy g n cs now
+  wrote_from :
+      (cs : List Call) (a now : Area) (k : Kind) → Runs cs a now → Held n (said a) → GrownFor g a →
+      a.phase ≡ phase.Apart k → WroteBy g n cs now
   wrote_from cs a now k runs held grown apart =
       let w = said a in
       let last : LastBroken (first_automaton g) (second_automaton g) w k = subst (Stands (first_automaton g) (second_automaton g) w) apart grown.stands in
@@ -193,12 +197,16 @@ module _ (g : Handed) (n : Numbers) where
         breaks = λ held. (now_fixed held).index;
       }
     where
-      by : (k : Kind) (es : List Listed) (i : ℕ) → Still n k es i now → held_by (said now) n.serial ≡ true → Fixed k es i (said now)
+      by :
+          (k : Kind) (es : List Listed) (i : ℕ) → Still n k es i now →
+          held_by (said now) n.serial ≡ true → Fixed k es i (said now)
       by k es i (inl here) held = here.1
       by k es i (inr gone) held = absurd (not_held_by n (said now) gone held)
 
   -- where it has ended it writes no more
-  gone_none : (cs : List Call) (a now : Area) → Runs cs a now → Gone n (said a) → some_own n is_writing cs ≡ true → ⊥
+  gone_none :
+      (cs : List Call) (a now : Area) → Runs cs a now → Gone n (said a) →
+      some_own n is_writing cs ≡ true → ⊥
   gone_none [] a now runs gone so = false≢true so
   gone_none (d ∷ cs) a now runs gone so =
       ⊎_elim
@@ -207,7 +215,10 @@ module _ (g : Handed) (n : Numbers) where
       (or_cases (is_made_with n d && is_writing d) (some_own n is_writing cs) so)
 
   -- before that it has written nothing
-  wrote_before : (d : Call) (cs : List Call) (a m now : Area) → Does d a m → is_apart a.phase ≡ false → some_own n is_writing (d ∷ cs) ≡ true → (some_own n is_writing cs ≡ true → WroteBy g n cs now) → WroteBy g n (d ∷ cs) now
+  wrote_before :
+      (d : Call) (cs : List Call) (a m now : Area) → Does d a m → is_apart a.phase ≡ false →
+      some_own n is_writing (d ∷ cs) ≡ true → (some_own n is_writing cs ≡ true → WroteBy g n cs now) →
+      WroteBy g n (d ∷ cs) now
   wrote_before d cs a m now does not so rest =
       ⊎_elim
       (λ here. let parts = and_parts (is_made_with n d) (is_writing d) here in absurd (none parts.0 parts.1))
@@ -217,13 +228,17 @@ module _ (g : Handed) (n : Numbers) where
       none : is_made_with n d ≡ true → is_writing d ≡ true → ⊥
       none its writes = both_ways (is_apart a.phase) not (ap is_apart (writer d a m does writes).apart.1)
 
-  written_by : (cs : List Call) (a now : Area) → Runs cs a now → AllByRecursion (StepsOver n g) cs → Known g n a → some_own n is_writing cs ≡ true → WroteBy g n cs now
+  written_by :
+      (cs : List Call) (a now : Area) → Runs cs a now → AllByRecursion (StepsOver n g) cs →
+      Known g n a → some_own n is_writing cs ≡ true → WroteBy g n cs now
   written_by [] a now runs over known so = absurd (false≢true so)
   written_by (d ∷ cs) a now runs over (inr gone) so = absurd (gone_none (d ∷ cs) a now runs gone so)
   written_by (d ∷ cs) a now runs over (inl known) so =
       by a.phase refl (written_by cs runs.0 now runs.2 over.1 (known_on g n d a runs.0 over.0 (effect d a runs.0 runs.1) (inl known)))
     where
-      by : (p : Phase) → a.phase ≡ p → (some_own n is_writing cs ≡ true → WroteBy g n cs now) → WroteBy g n (d ∷ cs) now
+      by :
+          (p : Phase) → a.phase ≡ p → (some_own n is_writing cs ≡ true → WroteBy g n cs now) →
+          WroteBy g n (d ∷ cs) now
       by (phase.Apart k) is rest = wrote_from (d ∷ cs) a now k runs known.0 known.1 is
       by p is rest = wrote_before d cs a runs.0 now runs.1 (ap is_apart is) so rest
 

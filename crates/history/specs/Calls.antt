@@ -1,5 +1,5 @@
--- The calls that handle an area, each with what was handed over and what came of it, and lists of them.
--- Assumes nothing.
+-- The calls that handle an area, each with what was handed over and what came of it, and lists of
+-- them. Assumes nothing.
 use Rattle.std.specs.Prelude.{◌≡◌, ℕ, ◌+◌, ◌^◌, ◌<◌, Bool, true, false, cond, ◌&&◌, List, [], ◌∷◌, Ok, Result, ◌==◌}
 use Rattle.std.specs.List.{list_any}
 use Rattle.refusal.specs.declared.fault.Refusal.{Refusal}
@@ -45,9 +45,9 @@ pub record Same (h g : Handed) : Type 0 where
   pub first_sets : SameSets h.first_sets g.first_sets
   pub second_sets : SameSets h.second_sets g.second_sets
 
--- a call, with what was handed over, what was answered, and what an output holds before and after. A
--- claim is told by its two numbers, whatever its kind; conclude's is handed over whole. A step is told
--- how many pairs; scratch is lent in so many row pairs, and levels
+-- a call, with what was handed over, what was answered, and what an output holds before and after.
+-- A claim is told by its two numbers, whatever its kind; conclude's is handed over whole. A step is
+-- told how many pairs; scratch is lent in so many row pairs, and levels
 pub data Call : Type 0 where
   take_up : Handed → Result (Lease Comparing) Refusal → Call
   oust : Handed → Result (Lease Comparing) Refusal → Call
@@ -134,8 +134,8 @@ abbrev pub is_giving_up : Call → Bool
 is_giving_up (give_up m (Ok n)) = true
 is_giving_up d = false
 
--- how many steps the call grants: the number that it asks for, where it is an accepted step told these
--- numbers
+-- how many steps the call grants: the number that it asks for, where it is an accepted step told
+-- these numbers
 abbrev pub granted_by : Numbers → Call → ℕ
 granted_by n (step m h steps slots (Ok answer)) = cond (are n m) steps 0
 granted_by n d = 0
@@ -145,8 +145,8 @@ abbrev pub granted : Numbers → List Call → ℕ
 granted n [] = 0
 granted n (c ∷ cs) = granted_by n c + granted n cs
 
--- how many pairs the call tells that it examined: the first number that an accepted step answers which
--- is told these numbers
+-- how many pairs the call tells that it examined: the first number that an accepted step answers
+-- which is told these numbers
 abbrev pub told_by : Numbers → Call → ℕ
 told_by n (step m h steps slots (Ok answer)) = cond (are n m) answer.0 0
 told_by n d = 0

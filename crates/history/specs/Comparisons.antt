@@ -1,5 +1,5 @@
--- Comparisons on an area, and what the law asks of one: how it was stepped, whether it ended, and what
--- is asked of it now. Assumes nothing.
+-- Comparisons on an area, and what the law asks of one: how it was stepped, whether it ended, and
+-- what is asked of it now. Assumes nothing.
 use Rattle.std.specs.Prelude.{◌≡◌, ℕ, ◌*◌, ◌≤◌, Bool, true, false, ◌⊎◌, List, None, Ok, Err}
 use Rattle.std.specs.List.{AllByRecursion, list_any}
 use Rattle.refusal.specs.declared.fault.Refusal.{Refusal}

@@ -30,10 +30,10 @@ claim serial = record { numbers = numbers serial; spent = false; at = record {} 
 abbrev pub room_for_six : List ℕ
 room_for_six = 9 ∷ 9 ∷ 9 ∷ 9 ∷ 9 ∷ 9 ∷ []
 
--- U against V is taken up; V against U ousts it, so that a step of the first is refused; the second is
--- stepped and concluded apart; its trail has no symbol, and its document is 0 1 0 0 0; the first claim
--- is given up to no effect, and the second frees the area; U against V is taken up again, stepped, and
--- concluded included
+-- U against V is taken up; V against U ousts it, so that a step of the first is refused; the second
+-- is stepped and concluded apart; its trail has no symbol, and its document is 0 1 0 0 0; the first
+-- claim is given up to no effect, and the second frees the area; U against V is taken up again,
+-- stepped, and concluded included
 abbrev pub example : List Call
 example =
     take_up (pair_of U V) (Ok (claim 1))

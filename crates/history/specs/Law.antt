@@ -1,5 +1,5 @@
--- The law over every history of an area: what holds whatever calls were made on it, in whatever order,
--- accepted or refused. Assumes nothing.
+-- The law over every history of an area: what holds whatever calls were made on it, in whatever
+-- order, accepted or refused. Assumes nothing.
 use Rattle.std.specs.Prelude.{◌≡◌, ℕ, Bool, true, false, not, List, Some, Ok, Err, Decides, length}
 use Rattle.std.specs.List.{AllByRecursion, slice_get}
 use Rattle.refusal.specs.declared.fault.Fault.TheVariants.{Ousted, Room}
@@ -39,8 +39,8 @@ abbrev pub count_of : Concluded → ℕ
 count_of (Included n) = n
 count_of (Apart k n claim) = n
 
--- a sequence of symbols, live in the first automaton, leads both to a pair of states that is broken in
--- the kind
+-- a sequence of symbols, live in the first automaton, leads both to a pair of states that is broken
+-- in the kind
 pub record ReachedBroken (A B : Automaton) (k : Kind) : Type 0 where
   pub word : List ℕ
   pub first : ℕ
@@ -69,8 +69,8 @@ pub record SymbolsWritten (way : List Listed) (o : List ℕ) (size : ℕ) (o' : 
   pub bytes : o' ≡ overwritten o 0 (symbols_of way)
 
 module _ (A B : Automaton) (k : Kind) (es : List Listed) (i : ℕ) (way : List Listed) where
-  -- the bytes of a tree stand at the output's front, and so many were answered: it is built along the
-  -- way, and accepted by the first automaton alone
+  -- the bytes of a tree stand at the output's front, and so many were answered: it is built along
+  -- the way, and accepted by the first automaton alone
   pub record TreeWritten (o : List ℕ) (size : ℕ) (o' : List ℕ) : Type 0 where
     pub tree : Tree
     pub document : DocumentOf A B k es i way tree
@@ -92,8 +92,8 @@ WritesDocument n g k es i way (document m h slots levels o (Ok size) o') =
     are n m ≡ true → Same g h → TreeWritten (first_automaton g) (second_automaton g) k es i way o size o'
 WritesDocument n g k es i way d = Unit {0}
 
--- what the comparison of these schemas and numbers has written by a list of calls, which leave the area
--- so
+-- what the comparison of these schemas and numbers has written by a list of calls, which leave the
+-- area so
 pub record WroteBy (g : Handed) (n : Numbers) (calls : List Call) (now : Area) : Type 0 where
   -- it listed these pairs, (0, 0) first
   pub pairs : List Listed
@@ -126,9 +126,9 @@ pub record WroteBy (g : Handed) (n : Numbers) (calls : List Call) (now : Area) :
 abbrev pub Wrote : {a : Area} → Comparison a → Type 0
 Wrote c = WroteBy c.schemas c.claim c.since c.now
 
--- what a call comes to whose claim or numbers are not the holder's: giving up answers 0, any other is
--- refused, conclude and trail with `ousted`, and an output stays as found; nothing is said of take and
--- oust
+-- what a call comes to whose claim or numbers are not the holder's: giving up answers 0, any other
+-- is refused, conclude and trail with `ousted`, and an output stays as found; nothing is said of
+-- take and oust
 abbrev pub TurnedAway : Call → Type 0
 TurnedAway (take_up h r) = Unit {0}
 TurnedAway (oust h r) = Unit {0}
@@ -143,7 +143,8 @@ TurnedAway (document m h slots levels o (Err e) o') = o' ≡ o
 TurnedAway (give_up m (Ok n)) = n ≡ 0
 TurnedAway (give_up m (Err e)) = ⊥
 
--- what holds of every comparison on an area, whatever calls were made before it, beside it and after it
+-- what holds of every comparison on an area, whatever calls were made before it, beside it and
+-- after it
 pub record EveryHistory (a : Area) : Type 0 where
   -- where its own steps were handed its schemas, its conclusion is right
   pub concluded :
@@ -151,8 +152,8 @@ pub record EveryHistory (a : Area) : Type 0 where
       Right (first_automaton c.schemas) (second_automaton c.schemas) v
   -- the conclusion counts as many pairs as its own accepted steps have told, added up
   pub counted : (c : Comparison a) → (v : Concluded) → ConcludesNow c v → count_of v ≡ told c.claim c.since
-  -- where its own steps were handed its schemas, what it has written is built along one way, and tells
-  -- them apart
+  -- where its own steps were handed its schemas, what it has written is built along one way, and
+  -- tells them apart
   pub written : (c : Comparison a) → StepsOverItsOwn c → own_call c is_writing ≡ true → Wrote c
   -- concluded apart, and as long as its claim is the holder, the area is apart
   pub apart : (c : Comparison a) → ApartAndHolder c → (k : Kind) × ((said c.now).phase ≡ phase.Apart k)
@@ -161,7 +162,8 @@ pub record EveryHistory (a : Area) : Type 0 where
   pub documented :
       (c : Comparison a) → StepsOverItsOwn c → ApartAndHolder c →
       (e : Refusal) → DocumentRefused c e → e.fault ≡ Room
-  -- neither ousted nor given up, it has its verdict once it was granted a step for each pair of states
+  -- neither ousted nor given up, it has its verdict once it was granted a step for each pair of
+  -- states
   pub in_time : (c : Comparison a) → NeitherOustedNorGivenUp c → GrantedAllPairs c → HasVerdict c
   -- until it is given up, concluded included or ousted, its claim is the holder
   pub holds : (c : Comparison a) → NeitherOustedNorGivenUp c → own_call c is_inclusion ≡ false → IsHolder c

@@ -44,15 +44,15 @@ W = one_of_two
 abbrev pub over_zero : Tables → Automaton
 over_zero T = automaton T zero_alone
 
--- a comparison of the two schemas, begun in the first area and stepped as far as one step goes, comes
--- to the second
+-- a comparison of the two schemas, begun in the first area and stepped as far as one step goes,
+-- comes to the second
 pub record Compares (S T : Tables) (w w' : Work) : Type 0 where
   pub live : Bool
   pub decides : Decides live (Live (over_zero S) 0)
   pub stepped : Stepped (over_zero S) (over_zero T) MOST_STEPS (begun w S T live) w'
 
--- such a comparison, begun anywhere, comes to something, and to nothing but the verdict, with so many
--- pairs examined
+-- such a comparison, begun anywhere, comes to something, and to nothing but the verdict, with so
+-- many pairs examined
 pub record ComesTo (S T : Tables) (v : Verdict) (n : ℕ) : Type 0 where
   pub some : (w : Work) → (w' : Work) × Compares S T w w'
   pub verdict : (w w' : Work) → Compares S T w w' → w'.phase ≡ Ready v
