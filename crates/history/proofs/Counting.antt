@@ -21,7 +21,7 @@ use Rattle.compare.specs.Work.{Work, said, is_free, begun}
 use Rattle.compare.proofs.Nexts.{with_nexts_longer}
 use Rattle.compare.proofs.Turning.{counts_stay}
 use Rattle.compare.proofs.Views.{few_pairs}
-use Rattle.history.specs.Calls.{Call, conclude, first_automaton, second_automaton, Runs, are, is_made_with, some_own, is_ousting, is_conclusion, is_inclusion, is_giving_up, granted_by, granted}
+use Rattle.history.specs.Calls.{Call, conclude, first_automaton, second_automaton, Runs, same_numbers, is_made_with, some_own, is_ousting, is_conclusion, is_inclusion, is_giving_up, granted_by, granted}
 use Rattle.history.specs.Comparisons.{Comparison, NeitherOustedNorGivenUp, GrantedAllPairs, HasVerdict}
 use Rattle.history.proofs.Effects.{Effect, keeps, begins, steps, parts, ends, effect, part_holder, started_so}
 use Rattle.history.proofs.Holders.{holders, held_step, own_step, started_held}
@@ -163,7 +163,7 @@ module _ (n : Numbers) (i j : ℕ) where
     one_call (keeps k) = later g (omega (arith, k.grants n)) (subst (λ (x : Area). Held n (said x)) (sym k.same) c.held) (subst (λ (x : Area). Counted i j g (said x)) (sym k.same) c.counted)
     one_call (begins b) = absurd (⊎_elim (both_ways (is_ousting d) (or_parts (is_ousting d) _ c.unousted).0) (both_ways (is_free a.phase) c.held.busy) b.how)
     one_call (steps s) =
-        let given : granted_by n d ≡ s.asked = subst (λ (x : Call). granted_by n x ≡ s.asked) (sym s.is) (cond-true (are n s.numbers) s.asked 0 (own_step n s c.held)) in
+        let given : granted_by n d ≡ s.asked = subst (λ (x : Call). granted_by n x ≡ s.asked) (sym s.is) (cond-true (same_numbers n s.numbers) s.asked 0 (own_step n s c.held)) in
         later (g + s.asked) (omega (arith, given)) (held_step n s c.held) (stepped_counted i j (first_automaton s.handed) (second_automaton s.handed) s.asked g (said a) (said m) s.does.1.stepped c.counted)
     one_call (parts p) =
         concluded_now

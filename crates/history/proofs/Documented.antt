@@ -22,7 +22,7 @@ use Rattle.compare.proofs.Grown.{last_index}
 use Rattle.document.specs.Documents.{HasDocument}
 use Rattle.document.specs.Writing.{NoDocument, early_refusal}
 use Rattle.document.proofs.Existing.{has_document}
-use Rattle.history.specs.Calls.{Handed, first_automaton, second_automaton, Call, conclude, Does, Runs, are, is_made_with, some_own, is_parting}
+use Rattle.history.specs.Calls.{Handed, first_automaton, second_automaton, Call, conclude, Does, Runs, same_numbers, is_made_with, some_own, is_parting}
 use Rattle.history.specs.Comparisons.{Comparison, StepsOverItsOwn, ApartAndHolder, DocumentRefused}
 use Rattle.history.proofs.Counting.{is_apart}
 use Rattle.history.proofs.Effects.{Effect, Keeps, Steps, Parts, effect, step_none, part_left, started_so}
@@ -56,7 +56,7 @@ module _ (n : Numbers) where
       kept : Keeps d a a' → IsApart a → IsApart a'
       kept e was = subst IsApart (sym e.same) was
 
-      stepped : (s : Steps d a a') → are n s.numbers ≡ true → IsApart a → IsApart a'
+      stepped : (s : Steps d a a') → same_numbers n s.numbers ≡ true → IsApart a → IsApart a'
       stepped s its was =
           let still : a.phase ≡ phase.Running → ⊥ = λ runs. false≢true (sym (ap is_apart runs) ∙ was) in
           ap (λ (x : Work). is_apart x.phase) (step_none s still) ∙ was

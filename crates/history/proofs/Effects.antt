@@ -15,7 +15,7 @@ use Rattle.compare.specs.Beginning.{Beginning}
 use Rattle.compare.specs.Concluding.{Conclusion, GivingUp}
 use Rattle.compare.specs.Stepping.{Turns, Stepping}
 use Rattle.compare.specs.Work.{Work, said, free, in_phase, is_free, held_by}
-use Rattle.history.specs.Calls.{Handed, first_automaton, second_automaton, Call, take_up, oust, step, conclude, give_up, Does, are, is_made_with, is_inclusion, is_giving_up, is_ousting, granted_by, told_by, Starts}
+use Rattle.history.specs.Calls.{Handed, first_automaton, second_automaton, Call, take_up, oust, step, conclude, give_up, Does, same_numbers, is_made_with, is_inclusion, is_giving_up, is_ousting, granted_by, told_by, Starts}
 use Rattle.history.specs.Comparisons.{Comparison}
 use Rattle.history.proofs.Permits.{Held, held_by_near, claim_permitted, step_permitted, begin_permitted, take_free}
 
@@ -58,7 +58,7 @@ module _ (d : Call) (a a' : Area) where
   pub record Ends : Type 0 where
     pub numbers : Numbers
     pub holder : Held numbers (said a)
-    pub made : (n : Numbers) → is_made_with n d ≡ are n numbers
+    pub made : (n : Numbers) → is_made_with n d ≡ same_numbers n numbers
     pub which : (is_inclusion d ≡ true) ⊎ (is_giving_up d ≡ true)
     pub freed : said a' ≡ free a.number a.serial
 

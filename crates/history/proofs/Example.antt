@@ -1,6 +1,6 @@
 -- The example is a history: the area after each of its calls, and what each call does. Assumes
 -- nothing.
-use Rattle.std.proofs.Common.{◌≡◌, ℕ, zero, suc, ◌+◌, ◌^◌, ◌<◌, ◌≤◌, Bool, true, false, ◌&&◌, ◌||◌, eqb, inr, List, [], ◌∷◌, length, replicate, get_or, take, None, Ok, sym, refl, ap, ◌∙◌, subst, lit<, arith}
+use Rattle.std.proofs.Common.{◌≡◌, ℕ, zero, suc, ◌+◌, ◌^◌, ◌<◌, ◌≤◌, Bool, true, false, ◌&&◌, ◌||◌, eqb, inr, List, [], ◌∷◌, length, replicate, get_or, take, drop, None, Ok, sym, refl, ap, ◌∙◌, subst, lit<, arith}
 use Rattle.std.proofs.lemmas.List.{length-replicate, get_or-replicate}
 use Rattle.std.proofs.lemmas.Bool.{ne_eqb}
 use Rattle.codec.specs.Numbers.{overwritten}
@@ -18,8 +18,9 @@ use Rattle.compare.specs.declared.event.Event.TheVariants.{Take}
 use Rattle.compare.specs.Beginning.{begin_refusal, Begins}
 use Rattle.compare.specs.declared.step.TheConstants.{MOST_STEPS}
 use Rattle.compare.specs.Stepping.{Stepped}
-use Rattle.compare.specs.Work.{Work, said, free, begun}
+use Rattle.compare.specs.Work.{Work, said, free}
 use Rattle.compare.proofs.Keeping.{kept_from, Kept}
+use Rattle.document.specs.Writing.{Found}
 use Rattle.history.specs.Calls.{take_up, Does, Runs}
 use Rattle.history.specs.Example.{pair_of, claim, room_for_six, example, ExampleRuns}
 use Rattle.history.specs.Marked.{zero_alone, U, V, over_zero}
@@ -48,8 +49,8 @@ kept_one =
       few_firsts = lit< tt;
       few_seconds = lit< tt;
       short = lit< tt;
-      fit = λ i low. let here : i ≡ 0 = omega (arith, low) in subst (λ (j : ℕ). Fits 1 1 j (get_or (take 1 slots) j start)) (sym here) (record { first_inside = lit< tt; second_inside = lit< tt; led = λ later. absurd (omega (arith, later)) });
-      once = λ i low. let here : i ≡ 0 = omega (arith, low) in subst (λ (j : ℕ). listed (take j (take 1 slots)) (get_or (take 1 slots) j start).first (get_or (take 1 slots) j start).second ≡ false) (sym here) refl;
+      fit = fit;
+      once = once;
       masks = ap suc (length-replicate {A = ℕ} 63 0);
       narrow = narrow;
       say = say;
@@ -57,6 +58,14 @@ kept_one =
       rest = rest;
     }
   where
+    fit : (i : ℕ) → i < 1 → Fits 1 1 i (get_or (take 1 slots) i start)
+    fit zero low = record { first_inside = lit< tt; second_inside = lit< tt; led = λ later. absurd (omega (arith, later)) }
+    fit (suc i) low = absurd (omega (arith, low))
+
+    once : (i : ℕ) → i < 1 → listed (take i (take 1 slots)) (get_or (take 1 slots) i start).first (get_or (take 1 slots) i start).second ≡ false
+    once zero low = refl
+    once (suc i) low = absurd (omega (arith, low))
+
     narrow : (p : ℕ) → p < 64 → get_or bits p 0 < 2 ^ 64
     narrow zero low = lit< tt
     narrow (suc p) low = subst (λ (n : ℕ). n < 2 ^ 64) (sym (get_or-replicate 63 p 0 0 (omega (arith, low)))) (lit< tt)
@@ -77,79 +86,68 @@ one_pair = record { firsts = 1; seconds = 1; entries = slots; length = 1; bits =
 abbrev listing : ℕ → Phase → ℕ → Area
 listing serial p examined = record { number = 7; serial = serial; phase = p; symbols = 2; pairs = one_pair; examined = examined }
 
--- the area that is free again, with the list that it had as it was made
+-- with a comparison that runs, with one of V and U that is ready and then apart, and with one of U and V
+-- that is ready
+abbrev running : ℕ → Area
+running serial = listing serial phase.Running 0
+
+abbrev ready_apart : Area
+ready_apart = listing 2 (phase.Ready (verdict.Apart Content)) 1
+
+abbrev concluded_apart : Area
+concluded_apart = listing 2 (phase.Apart Content) 1
+
+abbrev ready_included : Area
+ready_included = listing 3 (phase.Ready verdict.Included) 1
+
+-- the steps of the two
+v_u_step : Stepped (over_zero V) (over_zero U) MOST_STEPS (said (running 2)) (said ready_apart)
+v_u_step =
+    let examined = broken_examined V U (free 7 1) v_u_broken in
+    one_turn (over_zero V) (over_zero U) (said (running 2)) (said ready_apart) (verdict.Apart Content) MOST_STEPS refl examined refl (omega arith)
+
+u_v_step : Stepped (over_zero U) (over_zero V) 1 (said (running 3)) (said ready_included)
+u_v_step = one_turn (over_zero U) (over_zero V) (said (running 3)) (said ready_included) verdict.Included 1 refl (u_v_examined (free 7 2)) refl (omega arith)
+
+-- the document of V and U
+abbrev v_u_found : Found (over_zero V) (over_zero U) (said concluded_apart)
+v_u_found = record { way = []; tree = v_u_document.tree; document = (Content, refl, v_u_document.document) }
+
 module _ (a : Area) (made : said a ≡ free 7 0) where
+  -- the area that is free again, with the list that it had as it was made
   abbrev free_again : ℕ → Area
   free_again serial = record { number = 7; serial = serial; phase = phase.Free; symbols = 0; pairs = a.pairs; examined = 0 }
 
   said_free : (serial : ℕ) → said (free_again serial) ≡ free 7 serial
-  said_free serial = ap (λ (w : Work). record { number = 7; serial = serial; phase = phase.Free; symbols = 0; firsts = w.firsts; seconds = w.seconds; pairs = w.pairs; examined = 0 }) made
+  said_free serial = ap (λ (w : Work). record w { number = 7; serial = serial; phase = phase.Free; symbols = 0; examined = 0 }) made
 
   -- a comparison of U and V begins on a free area
   begins :
       (x : Area) (serial : ℕ) → said x ≡ free 7 serial → begin_refusal (free 7 serial) U V Take ≡ None →
-      Does (take_up (pair_of U V) (Ok (claim (serial + 1)))) x (listing (serial + 1) phase.Running 0)
+      Does (take_up (pair_of U V) (Ok (claim (serial + 1)))) x (running (serial + 1))
   begins x serial is may =
-      subst (λ (w : Work). (begin_refusal w U V Take ≡ None) × Begins U V zero_alone w (claim (serial + 1)) (said (listing (serial + 1) phase.Running 0))) (sym is)
+      subst (λ (w : Work). (begin_refusal w U V Take ≡ None) × Begins U V zero_alone w (claim (serial + 1)) (said (running (serial + 1)))) (sym is)
       (may, record { live = true; decides = (λ yes. alone_U, λ alive. refl); after = refl; number = refl; serial = refl })
 
-  -- the step of V against U, and that of U against V
-  v_u_step : Stepped (over_zero V) (over_zero U) MOST_STEPS (said (listing 2 phase.Running 0)) (said (listing 2 (phase.Ready (verdict.Apart Content)) 1))
-  v_u_step = one_turn (over_zero V) (over_zero U) (begun (free 7 1) V U true) (said (listing 2 (phase.Ready (verdict.Apart Content)) 1)) (verdict.Apart Content) MOST_STEPS refl (broken_examined V U (free 7 1) v_u_broken) refl (omega arith)
-
-  u_v_step : Stepped (over_zero U) (over_zero V) 1 (said (listing 3 phase.Running 0)) (said (listing 3 (phase.Ready verdict.Included) 1))
-  u_v_step = one_turn (over_zero U) (over_zero V) (begun (free 7 2) U V true) (said (listing 3 (phase.Ready verdict.Included) 1)) verdict.Included 1 refl (u_v_examined (free 7 2)) refl (omega arith)
+  -- the calls after the first k run from here
+  abbrev From : ℕ → Area → Type 0
+  From k x = Runs (drop k example) x (free_again 3)
 
   runs : Runs example a (free_again 3)
-  runs = (
-    listing 1 phase.Running 0,
-    begins a 0 made refl,
-    (
-      listing 2 phase.Running 0,
-      (refl, record { live = true; decides = (λ yes. alone_V, λ alive. refl); after = refl; number = refl; serial = refl }),
-      (
-        listing 2 phase.Running 0,
-        (refl, refl),
-        (
-          listing 2 (phase.Ready (verdict.Apart Content)) 1,
-          (refl, record { stepped = v_u_step; count = refl; mark = refl }),
-          (
-            listing 2 (phase.Apart Content) 1,
-            (refl, (refl, refl, refl, refl, refl)),
-            (
-              listing 2 (phase.Apart Content) 1,
-              (([], refl, (refl, refl, refl)), refl),
-              (
-                listing 2 (phase.Apart Content) 1,
-                (inr (refl, (record { way = []; tree = v_u_document.tree; document = (Content, refl, v_u_document.document) }, sym (ap length v_u_document.written), omega arith, omega arith, ap (overwritten room_for_six 0) (sym v_u_document.written))), refl),
-                (
-                  listing 2 (phase.Apart Content) 1,
-                  (refl, (refl, refl)),
-                  (
-                    free_again 2,
-                    (refl, (refl, said_free 2)),
-                    (
-                      listing 3 phase.Running 0,
-                      begins (free_again 2) 2 (said_free 2) refl,
-                      (
-                        listing 3 (phase.Ready verdict.Included) 1,
-                        (refl, record { stepped = u_v_step; count = refl; mark = refl }),
-                        (
-                          free_again 3,
-                          (refl, (refl, refl, said_free 3)),
-                          refl,
-                        ),
-                      ),
-                    ),
-                  ),
-                ),
-              ),
-            ),
-          ),
-        ),
-      ),
-    ),
-  )
+  runs =
+      let bytes = v_u_document.written in
+      let conclude_included : From 11 ready_included = (free_again 3, (refl, (refl, refl, said_free 3)), refl) in
+      let step_third : From 10 (running 3) = (ready_included, (refl, record { stepped = u_v_step; count = refl; mark = refl }), conclude_included) in
+      let take_third : From 9 (free_again 2) = (running 3, begins (free_again 2) 2 (said_free 2) refl, step_third) in
+      let give_up_second : From 8 concluded_apart = (free_again 2, (refl, (refl, said_free 2)), take_third) in
+      let give_up_first : From 7 concluded_apart = (concluded_apart, (refl, (refl, refl)), give_up_second) in
+      let write_document : From 6 concluded_apart = (concluded_apart, (inr (refl, (v_u_found, sym (ap length bytes), omega arith, omega arith, ap (overwritten room_for_six 0) (sym bytes))), refl), give_up_first) in
+      let write_trail : From 5 concluded_apart = (concluded_apart, (([], refl, (refl, refl, refl)), refl), write_document) in
+      let conclude_second : From 4 ready_apart = (concluded_apart, (refl, (refl, refl, refl, refl, refl)), write_trail) in
+      let step_second : From 3 (running 2) = (ready_apart, (refl, record { stepped = v_u_step; count = refl; mark = refl }), conclude_second) in
+      let step_first : From 2 (running 2) = (running 2, (refl, refl), step_second) in
+      let oust_first : From 1 (running 1) = (running 2, (refl, record { live = true; decides = (λ yes. alone_V, λ alive. refl); after = refl; number = refl; serial = refl }), step_first) in
+      (running 1, begins a 0 made refl, oust_first)
 
 pub example_runs : ExampleRuns
 example_runs = record { runs = λ a made. (free_again a made 3, runs a made) }

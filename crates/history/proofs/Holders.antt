@@ -18,7 +18,7 @@ use Rattle.compare.specs.declared.phase.Phase.{Phase}
 use Rattle.compare.specs.Stepping.{going_on, with_nexts, Turn, Turns}
 use Rattle.compare.specs.Strangers.{is_holder}
 use Rattle.compare.specs.Work.{Work, said, is_free, held_by}
-use Rattle.history.specs.Calls.{Handed, first_automaton, second_automaton, Call, take_up, oust, Does, Runs, are, is_beginning, is_made_with}
+use Rattle.history.specs.Calls.{Handed, first_automaton, second_automaton, Call, take_up, oust, Does, Runs, same_numbers, is_beginning, is_made_with}
 use Rattle.history.specs.Comparisons.{Comparison}
 use Rattle.history.proofs.Effects.{Keeps, Begins, Steps, Parts, Ends, Effect, keeps, begins, steps, parts, ends, effect, step_holder, part_holder, step_turns, part_left, started_so}
 use Rattle.history.proofs.Permits.{Held, holder_held}
@@ -30,18 +30,18 @@ pub record Gone (n : Numbers) (w : Work) : Type 0 where
 
 module _ (n : Numbers) where
   -- numbers that are these
-  pub are_these : (m : Numbers) → are n m ≡ true → (m.area ≡ n.area) × (m.serial ≡ n.serial)
+  pub are_these : (m : Numbers) → same_numbers n m ≡ true → (m.area ≡ n.area) × (m.serial ≡ n.serial)
   are_these m h = let parts = and_parts (eqb m.area n.area) _ h in (eqb-true m.area n.area parts.0, eqb-true m.serial n.serial parts.1)
 
-  pub these : (m : Numbers) → m ≡ n → are n m ≡ true
+  pub these : (m : Numbers) → m ≡ n → same_numbers n m ≡ true
   these m same = and_from _ _ (eq-eqb m.area n.area (ap (λ (x : Numbers). x.area) same)) (eq-eqb m.serial n.serial (ap (λ (x : Numbers). x.serial) same))
 
   -- the holder's numbers are these, where the comparison holds the area
-  pub holders : (w : Work) (m : Numbers) → Held n w → Held m w → are n m ≡ true
+  pub holders : (w : Work) (m : Numbers) → Held n w → Held m w → same_numbers n m ≡ true
   holders w m held h = and_from _ _ (eq-eqb m.area n.area (sym h.number ∙ held.number)) (eq-eqb m.serial n.serial (sym h.serial ∙ held.serial))
 
   -- and no holder's are, where it has ended
-  pub not_holders : (w : Work) (m : Numbers) → Gone n w → Held m w → are n m ≡ true → ⊥
+  pub not_holders : (w : Work) (m : Numbers) → Gone n w → Held m w → same_numbers n m ≡ true → ⊥
   not_holders w m gone h its =
       let serial : m.serial ≡ n.serial = (are_these m its).1 in
       ⊎_elim (λ later. omega (arith, later, serial, h.serial)) (λ none. both_ways (is_free w.phase) h.busy none.1) gone.past
@@ -143,7 +143,7 @@ module _ (n : Numbers) (a a' : Area) where
 
 module _ (n : Numbers) {d : Call} {a a' : Area} where
   -- a step is its own where it holds the area, and it holds it on; so it is with a conclusion apart
-  pub own_step : (s : Steps d a a') → Held n (said a) → are n s.numbers ≡ true
+  pub own_step : (s : Steps d a a') → Held n (said a) → same_numbers n s.numbers ≡ true
   own_step s held = holders n (said a) s.numbers held (step_holder s)
 
   pub held_step : Steps d a a' → Held n (said a) → Held n (said a')
@@ -198,7 +198,7 @@ module _ (n : Numbers) (P : Area → Type 0) where
   -- of its own, and where it concludes apart
   pub stands_on :
       (P' : Area → Type 0) {d : Call} {a a' : Area} → (Keeps d a a' → P a → P' a') →
-      ((s : Steps d a a') → are n s.numbers ≡ true → P a → P' a') → (Parts d a a' → P a → P' a') →
+      ((s : Steps d a a') → same_numbers n s.numbers ≡ true → P a → P' a') → (Parts d a a' → P a → P' a') →
       Effect d a a' → Standing n P a → Standing n P' a'
   stands_on P' kept stepped parted e (inr gone) = inr (gone_on n e gone)
   stands_on P' kept stepped parted (keeps k) (inl now) = inl (subst (λ (x : Area). Held n (said x)) (sym k.same) now.0, kept k now.1)

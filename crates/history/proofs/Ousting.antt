@@ -15,7 +15,7 @@ use Rattle.compare.specs.Work.{Work, said, is_free}
 use Rattle.compare.proofs.Strangers.{step_of_stranger, conclusion_of_stranger, trail_of_stranger, giving_up_of_stranger}
 use Rattle.document.specs.Writing.{DocumentOfStranger}
 use Rattle.document.proofs.Outcomes.{document_of_stranger}
-use Rattle.history.specs.Calls.{Call, take_up, oust, step, conclude, trail, document, give_up, Does, Runs, are, is_made_with, some_own, is_inclusion, is_giving_up, is_ousting}
+use Rattle.history.specs.Calls.{Call, take_up, oust, step, conclude, trail, document, give_up, Does, Runs, same_numbers, is_made_with, some_own, is_inclusion, is_giving_up, is_ousting}
 use Rattle.history.specs.Comparisons.{Comparison, own_call, IsHolder, NeitherOustedNorGivenUp, AnotherBegan, OwnNow}
 use Rattle.history.specs.Law.{TurnedAway}
 use Rattle.history.proofs.Effects.{Effect, keeps, begins, steps, parts, ends, effect}
@@ -47,7 +47,7 @@ module _ (n : Numbers) where
           absurd (⊎_elim (λ included. both_ways _ unincluded (and_from _ _ its included)) (λ gives. both_ways _ ungiven (and_from _ _ its gives)) e.which)
 
   -- no claim with its numbers is the holder, where it has ended
-  not_held : (w : Work) (m : Numbers) → Gone n w → are n m ≡ true → is_holder w m ≡ false
+  not_held : (w : Work) (m : Numbers) → Gone n w → same_numbers n m ≡ true → is_holder w m ≡ false
   not_held w m gone its = ⊎_elim (λ yes. absurd (not_holders n w m gone (holder_held w m yes) its)) (λ no. no) (cases_Bool (is_holder w m))
 
   -- what is accepted is not refused
@@ -56,12 +56,12 @@ module _ (n : Numbers) where
 
   -- the refusal of a claim of this area that is not the holder's is `ousted`
   says_ousted :
-      (w : Work) (m : Numbers) → w.number ≡ n.area → are n m ≡ true → (stranger w m).fault ≡ Ousted
+      (w : Work) (m : Numbers) → w.number ≡ n.area → same_numbers n m ≡ true → (stranger w m).fault ≡ Ousted
   says_ousted w m near its = cond-true (eqb m.area w.number) Ousted Foreign (eq-eqb m.area w.number ((are_these n m its).0 ∙ sym near))
 
   gives_none :
       (m : Numbers) (a a' : Area) (r : Result ℕ Refusal) → GivingUp a m r a' → Gone n (said a) →
-      are n m ≡ true → r ≡ Ok 0
+      same_numbers n m ≡ true → r ≡ Ok 0
   unfolding GivingUpOfStranger
   gives_none m a a' r does gone its =
       (giving_up_of_stranger a m r a' does (not_held (said a) m gone its)).0

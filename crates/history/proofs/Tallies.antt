@@ -9,7 +9,7 @@ use Rattle.compare.specs.declared.conclude.Concluded.{Concluded}
 use Rattle.compare.specs.declared.conclude.Concluded.TheVariants as concluded
 use Rattle.compare.specs.Concluding.{Conclusion}
 use Rattle.compare.specs.Work.{Work}
-use Rattle.history.specs.Calls.{Call, Runs, are, told_by, told}
+use Rattle.history.specs.Calls.{Call, Runs, same_numbers, told_by, told}
 use Rattle.history.specs.Comparisons.{Comparison, ConcludesNow}
 use Rattle.history.specs.Law.{count_of}
 use Rattle.history.proofs.Effects.{Effect, Keeps, Steps, Parts, effect, part_left, started_so}
@@ -28,9 +28,9 @@ module _ (n : Numbers) where
       kept : Keeps d a a' → a.examined ≡ k → a'.examined ≡ k + told_by n d
       kept e so = omega (arith, so, e.tells n, ap (λ (x : Area). x.examined) e.same)
 
-      stepped : (s : Steps d a a') → are n s.numbers ≡ true → a.examined ≡ k → a'.examined ≡ k + told_by n d
+      stepped : (s : Steps d a a') → same_numbers n s.numbers ≡ true → a.examined ≡ k → a'.examined ≡ k + told_by n d
       stepped s its so =
-          let tells : told_by n d ≡ s.answer.0 = subst (λ (x : Call). told_by n x ≡ s.answer.0) (sym s.is) (cond-true (are n s.numbers) s.answer.0 0 its) in
+          let tells : told_by n d ≡ s.answer.0 = subst (λ (x : Call). told_by n x ≡ s.answer.0) (sym s.is) (cond-true (same_numbers n s.numbers) s.answer.0 0 its) in
           omega (arith, so, tells, s.does.1.count, (step_onward s).examined)
 
       parted : Parts d a a' → a.examined ≡ k → a'.examined ≡ k + told_by n d

@@ -20,7 +20,7 @@ use Rattle.compare.specs.Growing.{LastBroken, Stands, Grown, BeginsGrown, StepsG
 use Rattle.compare.specs.Strangers.{is_holder}
 use Rattle.compare.specs.Work.{Work, said}
 use Rattle.compare.proofs.Grown.{begins_grown, steps_grown, concludes_grown, included_carries, apart_tells}
-use Rattle.history.specs.Calls.{Handed, first_automaton, second_automaton, Same, Call, Runs, are, StepsOver}
+use Rattle.history.specs.Calls.{Handed, first_automaton, second_automaton, Same, Call, Runs, same_numbers, StepsOver}
 use Rattle.history.specs.Comparisons.{Comparison, StepsOverItsOwn, IsHolder, ConcludesNow}
 use Rattle.history.specs.Law.{Inclusion, ReachesBroken, Right}
 use Rattle.history.proofs.Effects.{Effect, Keeps, Steps, Parts, effect, started_so}
@@ -54,7 +54,7 @@ module _ (g : Handed) (n : Numbers) where
       kept : Keeps d a a' → GrownFor g a → GrownFor g a'
       kept k grown = subst (GrownFor g) (sym k.same) grown
 
-      stepped : (s : Steps d a a') → are n s.numbers ≡ true → GrownFor g a → GrownFor g a'
+      stepped : (s : Steps d a a') → same_numbers n s.numbers ≡ true → GrownFor g a → GrownFor g a'
       stepped s its grown =
           let h = s.handed in
           let same : Same g h = subst (StepsOver n g) s.is over its in

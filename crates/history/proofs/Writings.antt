@@ -27,7 +27,7 @@ use Rattle.compare.proofs.Trails.{one_trail}
 use Rattle.document.specs.Documents.{Way, symbols_of, DocumentOf}
 use Rattle.document.proofs.Accepting.{built_tells}
 use Rattle.document.proofs.Ways.{every_way, one_way, way_trail}
-use Rattle.history.specs.Calls.{Handed, first_automaton, second_automaton, Same, Call, trail, document, Does, Runs, are, is_made_with, some_own, is_writing, StepsOver}
+use Rattle.history.specs.Calls.{Handed, first_automaton, second_automaton, Same, Call, trail, document, Does, Runs, same_numbers, is_made_with, some_own, is_writing, StepsOver}
 use Rattle.history.specs.Comparisons.{Comparison, own_call, StepsOverItsOwn}
 use Rattle.history.specs.Law.{TreeWritten, WritesTrail, WritesDocument, WroteBy, Wrote}
 use Rattle.history.proofs.Counting.{is_apart}
@@ -41,7 +41,7 @@ use Rattle.history.proofs.Verdicts.{GrownFor, Known, known_on, begun_known}
 record Writer (d : Call) (w : Work) : Type 0 where
   numbers : Numbers
   holds : Held numbers w
-  made : (n : Numbers) → is_made_with n d ≡ are n numbers
+  made : (n : Numbers) → is_made_with n d ≡ same_numbers n numbers
   apart : (k : Kind) × (w.phase ≡ phase.Apart k)
 
 writer : (d : Call) (a a' : Area) → Does d a a' → is_writing d ≡ true → Writer d (said a)
@@ -74,7 +74,7 @@ module _ (n : Numbers) (k : Kind) (es : List Listed) (i : ℕ) where
       kept : Keeps d a a' → Fixed k es i (said a) → Fixed k es i (said a')
       kept e fixed = subst (λ (x : Area). Fixed k es i (said x)) (sym e.same) fixed
 
-      stepped : (s : Steps d a a') → are n s.numbers ≡ true → Fixed k es i (said a) → Fixed k es i (said a')
+      stepped : (s : Steps d a a') → same_numbers n s.numbers ≡ true → Fixed k es i (said a) → Fixed k es i (said a')
       stepped s its fixed =
           let still : a.phase ≡ phase.Running → ⊥ = λ runs. false≢true (ap is_apart (sym runs ∙ fixed.apart)) in
           subst (Fixed k es i) (sym (step_none s still)) fixed

@@ -74,18 +74,18 @@ Runs [] a a' = a' ≡ a
 Runs (c ∷ cs) a a' = (m : Area) × Does c a m × Runs cs m a'
 
 -- the two numbers are these
-abbrev pub are : Numbers → Numbers → Bool
-are n m = m.area == n.area && m.serial == n.serial
+abbrev pub same_numbers : Numbers → Numbers → Bool
+same_numbers n m = m.area == n.area && m.serial == n.serial
 
 -- the call is made with the claim of these numbers, or told them
 abbrev pub is_made_with : Numbers → Call → Bool
 is_made_with n (take_up h r) = false
 is_made_with n (oust h r) = false
-is_made_with n (step m h steps slots r) = are n m
-is_made_with n (conclude c r) = are n c.numbers
-is_made_with n (trail m o r o') = are n m
-is_made_with n (document m h slots levels o r o') = are n m
-is_made_with n (give_up m r) = are n m
+is_made_with n (step m h steps slots r) = same_numbers n m
+is_made_with n (conclude c r) = same_numbers n c.numbers
+is_made_with n (trail m o r o') = same_numbers n m
+is_made_with n (document m h slots levels o r o') = same_numbers n m
+is_made_with n (give_up m r) = same_numbers n m
 
 -- some call of the list that is made with the claim of these numbers passes the test
 abbrev pub some_own : Numbers → (Call → Bool) → List Call → Bool
@@ -137,7 +137,7 @@ is_giving_up d = false
 -- how many steps the call grants: the number that it asks for, where it is an accepted step told
 -- these numbers
 abbrev pub granted_by : Numbers → Call → ℕ
-granted_by n (step m h steps slots (Ok answer)) = cond (are n m) steps 0
+granted_by n (step m h steps slots (Ok answer)) = cond (same_numbers n m) steps 0
 granted_by n d = 0
 
 -- the steps granted, added up
@@ -148,7 +148,7 @@ granted n (c ∷ cs) = granted_by n c + granted n cs
 -- how many pairs the call tells that it examined: the first number that an accepted step answers
 -- which is told these numbers
 abbrev pub told_by : Numbers → Call → ℕ
-told_by n (step m h steps slots (Ok answer)) = cond (are n m) answer.0 0
+told_by n (step m h steps slots (Ok answer)) = cond (same_numbers n m) answer.0 0
 told_by n d = 0
 
 -- the pairs told, added up
@@ -158,5 +158,5 @@ told n (c ∷ cs) = told_by n c + told n cs
 
 -- an accepted step told these numbers was handed these schemas; nothing is said of other calls
 abbrev pub StepsOver : Numbers → Handed → Call → Type 0
-StepsOver n g (step m h steps slots (Ok answer)) = are n m ≡ true → Same g h
+StepsOver n g (step m h steps slots (Ok answer)) = same_numbers n m ≡ true → Same g h
 StepsOver n g d = Unit {0}

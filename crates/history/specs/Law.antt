@@ -22,7 +22,7 @@ use Rattle.compare.specs.Trailing.{broken_index}
 use Rattle.compare.specs.Pairs.{start}
 use Rattle.compare.specs.Work.{said, held_by}
 use Rattle.document.specs.Documents.{Way, symbols_of, DocumentOf}
-use Rattle.history.specs.Calls.{Handed, first_automaton, second_automaton, Same, Call, take_up, oust, step, conclude, trail, document, give_up, are, is_inclusion, is_writing, told}
+use Rattle.history.specs.Calls.{Handed, first_automaton, second_automaton, Same, Call, take_up, oust, step, conclude, trail, document, give_up, same_numbers, is_inclusion, is_writing, told}
 use Rattle.history.specs.Comparisons.{Comparison, own_call, StepsOverItsOwn, GrantedAllPairs, IsHolder, NeitherOustedNorGivenUp, ApartAndHolder, HasVerdict, ConcludesNow, DocumentRefused, AnotherBegan, OwnNow}
 
 -- every tree that the first automaton accepts is accepted by the second
@@ -82,14 +82,14 @@ module _ (A B : Automaton) (k : Kind) (es : List Listed) (i : ℕ) (way : List L
 -- an accepted trail call with these numbers wrote the symbols of the way; nothing is said of other
 -- calls
 abbrev pub WritesTrail : Numbers → List Listed → Call → Type 0
-WritesTrail n way (trail m o (Ok size) o') = are n m ≡ true → SymbolsWritten way o size o'
+WritesTrail n way (trail m o (Ok size) o') = same_numbers n m ≡ true → SymbolsWritten way o size o'
 WritesTrail n way d = Unit {0}
 
 -- an accepted document call with these numbers and schemas wrote the tree along the way; nothing is
 -- said of other calls
 abbrev pub WritesDocument : Numbers → Handed → Kind → List Listed → ℕ → List Listed → Call → Type 0
 WritesDocument n g k es i way (document m h slots levels o (Ok size) o') =
-    are n m ≡ true → Same g h → TreeWritten (first_automaton g) (second_automaton g) k es i way o size o'
+    same_numbers n m ≡ true → Same g h → TreeWritten (first_automaton g) (second_automaton g) k es i way o size o'
 WritesDocument n g k es i way d = Unit {0}
 
 -- what the comparison of these schemas and numbers has written by a list of calls, which leave the
