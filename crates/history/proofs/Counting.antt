@@ -153,7 +153,13 @@ module _ (n : Numbers) (i j : ℕ) where
         (g' : ℕ) → g' ≡ g + granted_by n d → Held n (said m) → Counted i j g' (said m) →
         Timely (d ∷ cs) now
     later g' more held counted =
-        let course : Course cs g' m = record { held = held; counted = counted; unousted = (or_parts (is_ousting d) _ c.unousted).1; kept = (or_parts (is_made_with n d && is_giving_up d) (some_own n is_giving_up cs) c.kept).1; reached = omega (arith, more, c.reached) } in
+        let course : Course cs g' m = record {
+          held = held;
+          counted = counted;
+          unousted = (or_parts (is_ousting d) _ c.unousted).1;
+          kept = (or_parts (is_made_with n d && is_giving_up d) (some_own n is_giving_up cs) c.kept).1;
+          reached = omega (arith, more, c.reached);
+        } in
         ⊎_elim (λ so. inl (or_right _ _ so)) inr (then g' course)
 
     concluded_now : is_made_with n d ≡ true → is_conclusion d ≡ true → Timely (d ∷ cs) now
@@ -181,7 +187,12 @@ module _ (n : Numbers) (i j : ℕ) where
 -- a comparison that has begun
 begun_counted :
     (w w' : Work) (T U : Tables) (live : Bool) → w' ≡ begun w T U live → Counted T.states U.states 0 w'
-begun_counted w w' T U true is = record { together = λ k apart. false≢true (ap is_apart (sym (ap (λ (x : Work). x.phase) is) ∙ apart)); firsts = ap (λ (x : Work). x.firsts) is; seconds = ap (λ (x : Work). x.seconds) is; runs = λ _. (ap (λ (x : Work). x.examined) is, omega (arith, ap (λ (x : Work). x.examined) is, ap (λ (x : Work). length x.pairs) is)) }
+begun_counted w w' T U true is = record {
+  together = λ k apart. false≢true (ap is_apart (sym (ap (λ (x : Work). x.phase) is) ∙ apart));
+  firsts = ap (λ (x : Work). x.firsts) is;
+  seconds = ap (λ (x : Work). x.seconds) is;
+  runs = λ _. (ap (λ (x : Work). x.examined) is, omega (arith, ap (λ (x : Work). x.examined) is, ap (λ (x : Work). length x.pairs) is));
+}
 begun_counted w w' T U false is = ready T.states U.states 0 w' verdict.Included (ap (λ (x : Work). x.phase) is) (ap (λ (x : Work). x.firsts) is) (ap (λ (x : Work). x.seconds) is)
 
 pub in_time : (a : Area) (c : Comparison a) → NeitherOustedNorGivenUp c → GrantedAllPairs c → HasVerdict c
@@ -190,4 +201,10 @@ in_time a c on reached =
     let T = c.schemas.first in
     let U = c.schemas.second in
     timely c.claim T.states U.states c.since 0 c.begun c.now c.goes_on
-    (record { held = started_held c; counted = begun_counted (said c.at) (said c.begun) T U s.live s.after; unousted = on.unousted; kept = on.kept; reached = omega (arith, reached) })
+    (record {
+      held = started_held c;
+      counted = begun_counted (said c.at) (said c.begun) T U s.live s.after;
+      unousted = on.unousted;
+      kept = on.kept;
+      reached = omega (arith, reached);
+    })

@@ -40,7 +40,11 @@ module _ (T U : Tables) where
       stands_on n NotedIn NotedIn (λ k noted. subst NotedIn (sym k.same) noted) (λ s its noted. onward (step_onward s) noted) (λ p noted. onward (part_onward p) noted) e
     where
       onward : Onward (said a) (said a') → NotedIn a → NotedIn a'
-      onward on noted = record { symbols = on.symbols ∙ noted.symbols; firsts = on.firsts ∙ noted.firsts; seconds = on.seconds ∙ noted.seconds }
+      onward on noted = record {
+        symbols = on.symbols ∙ noted.symbols;
+        firsts = on.firsts ∙ noted.firsts;
+        seconds = on.seconds ∙ noted.seconds;
+      }
 
 -- what was concluded apart stays apart until it ends
 module _ (n : Numbers) where
@@ -63,7 +67,14 @@ module _ (n : Numbers) where
 
   -- the call that concludes it
   parting : (d : Call) (a a' : Area) → is_parting d ≡ true → Does d a a' → IsApart a'
-  parting (conclude c (Ok (concluded.Apart k count claim))) a a' is does = apart_after (conclude c (Ok (concluded.Apart k count claim))) a a' (record { claim = c; kind = k; count = count; apart = claim; is = refl; does = does })
+  parting (conclude c (Ok (concluded.Apart k count claim))) a a' is does = apart_after (conclude c (Ok (concluded.Apart k count claim))) a a' (record {
+    claim = c;
+    kind = k;
+    count = count;
+    apart = claim;
+    is = refl;
+    does = does;
+  })
   parting d a a' is does = absurd (false≢true is)
 
   apart_since :
@@ -111,7 +122,11 @@ module _ {a : Area} (c : Comparison a) where
       let T = c.schemas.first in
       let U = c.schemas.second in
       let after = (started_so c).does.1.after in
-      let begun : Noted T U (said c.begun) = record { symbols = ap (λ (x : Work). x.symbols) after; firsts = ap (λ (x : Work). x.firsts) after; seconds = ap (λ (x : Work). x.seconds) after } in
+      let begun : Noted T U (said c.begun) = record {
+        symbols = ap (λ (x : Work). x.symbols) after;
+        firsts = ap (λ (x : Work). x.firsts) after;
+        seconds = ap (λ (x : Work). x.seconds) after;
+      } in
       stands_now c.claim (NotedIn T U) c.now (stands_along c.claim (NotedIn T U) (noted_on T U c.claim) c.since c.begun c.now c.goes_on (inl (started_held c, begun))) on.holder
 
   -- so nothing is refused before a document is looked for

@@ -77,17 +77,58 @@ given_up m k a a' does = by (held_by (said a) m.serial) refl does.1
         (b : Bool) → held_by (said a) m.serial ≡ b →
         cond b ((k ≡ 1) × (said a' ≡ free a.number a.serial)) ((k ≡ 0) × (a' ≡ a)) →
         Effect (give_up m (Ok k)) a a'
-    by true held up = ends (record { numbers = m; holder = held_by_near (said a) m does.0 held; made = λ n. refl; which = inr refl; freed = up.1 })
+    by true held up = ends (record {
+      numbers = m;
+      holder = held_by_near (said a) m does.0 held;
+      made = λ n. refl;
+      which = inr refl;
+      freed = up.1;
+    })
     by false held up = keeps (record { same = up.1; grants = λ n. refl; tells = λ n. refl })
 
 pub effect : (d : Call) (a a' : Area) → Does d a a' → Effect d a a'
 effect (take_up h (Ok c)) a a' does =
-    begins (record { event = Take; handed = h; claim = c; does = does; how = inr (take_free (said a) (begin_permitted (said a) h.first h.second Take does.0).2); unowned = λ n. refl })
-effect (oust h (Ok c)) a a' does = begins (record { event = Oust; handed = h; claim = c; does = does; how = inl refl; unowned = λ n. refl })
-effect (step m h asked slots (Ok answer)) a a' does = steps (record { numbers = m; handed = h; asked = asked; slots = slots; answer = answer; is = refl; does = does })
+    begins (record {
+      event = Take;
+      handed = h;
+      claim = c;
+      does = does;
+      how = inr (take_free (said a) (begin_permitted (said a) h.first h.second Take does.0).2);
+      unowned = λ n. refl;
+    })
+effect (oust h (Ok c)) a a' does = begins (record {
+  event = Oust;
+  handed = h;
+  claim = c;
+  does = does;
+  how = inl refl;
+  unowned = λ n. refl;
+})
+effect (step m h asked slots (Ok answer)) a a' does = steps (record {
+  numbers = m;
+  handed = h;
+  asked = asked;
+  slots = slots;
+  answer = answer;
+  is = refl;
+  does = does;
+})
 effect (conclude c (Ok (concluded.Included n))) a a' does =
-    ends (record { numbers = c.numbers; holder = (claim_permitted (said a) c.numbers Conclude does.0).0; made = λ n. refl; which = inl refl; freed = does.1.2 })
-effect (conclude c (Ok (concluded.Apart k n claim))) a a' does = parts (record { claim = c; kind = k; count = n; apart = claim; is = refl; does = does })
+    ends (record {
+      numbers = c.numbers;
+      holder = (claim_permitted (said a) c.numbers Conclude does.0).0;
+      made = λ n. refl;
+      which = inl refl;
+      freed = does.1.2;
+    })
+effect (conclude c (Ok (concluded.Apart k n claim))) a a' does = parts (record {
+  claim = c;
+  kind = k;
+  count = n;
+  apart = claim;
+  is = refl;
+  does = does;
+})
 effect (conclude c (Err e)) a a' does = keeps (record { same = does.2; grants = λ n. refl; tells = λ n. refl })
 effect (give_up m (Ok k)) a a' does = given_up m k a a' does
 effect d a a' does = keeps (record { same = does.1; grants = λ n. refl; tells = λ n. refl })
@@ -130,8 +171,18 @@ pub record Started (g : Handed) (n : Numbers) (a a' : Area) : Type 0 where
 
 started :
     (d : Call) (g : Handed) (n : Numbers) (a a' : Area) → Does d a a' → Starts d g n → Started g n a a'
-started (take_up h (Ok c)) g n a a' does is = record { event = Take; claim = c; numbers = is.1; does = subst (λ (x : Handed). Beginning Take x.first x.second x.first_sets a (Ok c) a') (sym is.0) does }
-started (oust h (Ok c)) g n a a' does is = record { event = Oust; claim = c; numbers = is.1; does = subst (λ (x : Handed). Beginning Oust x.first x.second x.first_sets a (Ok c) a') (sym is.0) does }
+started (take_up h (Ok c)) g n a a' does is = record {
+  event = Take;
+  claim = c;
+  numbers = is.1;
+  does = subst (λ (x : Handed). Beginning Take x.first x.second x.first_sets a (Ok c) a') (sym is.0) does;
+}
+started (oust h (Ok c)) g n a a' does is = record {
+  event = Oust;
+  claim = c;
+  numbers = is.1;
+  does = subst (λ (x : Handed). Beginning Oust x.first x.second x.first_sets a (Ok c) a') (sym is.0) does;
+}
 started d g n a a' does is = absurd is
 
 -- that of a comparison

@@ -21,7 +21,7 @@ use Rattle.compare.specs.Work.{Work, said, is_free, held_by}
 use Rattle.history.specs.Calls.{Handed, first_automaton, second_automaton, Call, take_up, oust, Does, Runs, same_numbers, is_beginning, is_made_with}
 use Rattle.history.specs.Comparisons.{Comparison}
 use Rattle.history.proofs.Effects.{Keeps, Begins, Steps, Parts, Ends, Effect, keeps, begins, steps, parts, ends, effect, step_holder, part_holder, step_turns, part_left, started_so}
-use Rattle.history.proofs.Permits.{Held, holder_held}
+use Rattle.history.proofs.Permits.{Held}
 
 -- the comparison whose claim has these numbers has ended: another one has begun since, or none yet
 pub record Gone (n : Numbers) (w : Work) : Type 0 where
@@ -46,10 +46,7 @@ module _ (n : Numbers) where
       let serial : m.serial ≡ n.serial = (are_these m its).1 in
       ⊎_elim (λ later. omega (arith, later, serial, h.serial)) (λ none. both_ways (is_free w.phase) h.busy none.1) gone.past
 
-  not_holder : (w : Work) → Gone n w → is_holder w n ≡ true → ⊥
-  not_holder w gone so = not_holders w n gone (holder_held w n so) (these n refl)
-
-  pub not_held_by : (w : Work) → Gone n w → held_by w n.serial ≡ true → ⊥
+  not_held_by : (w : Work) → Gone n w → held_by w n.serial ≡ true → ⊥
   not_held_by w gone held =
       let parts = and_parts _ (eqb n.serial w.serial) held in
       not_holders w n gone (record { number = gone.number; serial = sym (eqb-true n.serial w.serial parts.1); busy = not-true _ parts.0 }) (these n refl)
@@ -139,7 +136,10 @@ module _ (n : Numbers) (a a' : Area) where
       Beginning e h.first h.second h.first_sets a (Ok claim) a' → (said a).number ≡ n.area →
       n.serial ≤ (said a).serial → Gone n (said a')
   begun_gone e h claim does near low =
-      record { number = ap (λ (x : Work). x.number) does.1.after ∙ near; past = inl (omega (arith, low, ap (λ (x : Work). x.serial) does.1.after)) }
+      record {
+        number = ap (λ (x : Work). x.number) does.1.after ∙ near;
+        past = inl (omega (arith, low, ap (λ (x : Work). x.serial) does.1.after));
+      }
 
 module _ (n : Numbers) {d : Call} {a a' : Area} where
   -- a step is its own where it holds the area, and it holds it on; so it is with a conclusion apart
@@ -157,7 +157,10 @@ module _ (n : Numbers) {d : Call} {a a' : Area} where
   begin_ends b held = begun_gone n a a' b.event b.handed b.claim b.does held.number (omega (arith, held.serial))
 
   end_ends : Ends d a a' → Held n (said a) → Gone n (said a')
-  end_ends e held = record { number = ap (λ (x : Work). x.number) e.freed ∙ held.number; past = inr (ap (λ (x : Work). x.serial) e.freed ∙ held.serial, ap (λ (x : Work). is_free x.phase) e.freed) }
+  end_ends e held = record {
+    number = ap (λ (x : Work). x.number) e.freed ∙ held.number;
+    past = inr (ap (λ (x : Work). x.serial) e.freed ∙ held.serial, ap (λ (x : Work). is_free x.phase) e.freed);
+  }
 
   -- one that holds the area holds it on, or ends
   pub held_on : Effect d a a' → Held n (said a) → Held n (said a') ⊎ Gone n (said a')
@@ -190,9 +193,12 @@ Standing n P a = (Held n (said a) × P a) ⊎ Gone n (said a)
 
 module _ (n : Numbers) (P : Area → Type 0) where
   -- as long as its claim is the holder, this is so
+  pub stands_by : (a : Area) → Standing n P a → held_by (said a) n.serial ≡ true → P a
+  stands_by a (inl now) held = now.1
+  stands_by a (inr gone) held = absurd (not_held_by n (said a) gone held)
+
   pub stands_now : (a : Area) → Standing n P a → is_holder (said a) n ≡ true → P a
-  stands_now a (inl now) so = now.1
-  stands_now a (inr gone) so = absurd (not_holder n (said a) gone so)
+  stands_now a stands holder = stands_by a stands (and_parts (eqb n.area a.number) _ holder).1
 
   -- what a call makes of this, from what it makes of it where it keeps the area, where it is a step
   -- of its own, and where it concludes apart

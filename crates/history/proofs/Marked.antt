@@ -99,7 +99,13 @@ pub v_u_document : DocumentBytes V U (0 ∷ 1 ∷ 0 ∷ 0 ∷ 0 ∷ [])
 v_u_document =
     record {
       tree = node 0 (child 0 (node 0 none) none);
-      document = record { first = start; listed = refl; starts = (refl, refl); leads = refl; built = ((least_zero, first_refused), ((0, refl, sample_V), tt)) };
+      document = record {
+        first = start;
+        listed = refl;
+        starts = (refl, refl);
+        leads = refl;
+        built = ((least_zero, first_refused), ((0, refl, sample_V), tt));
+      };
       written = refl;
     }
 
@@ -107,7 +113,13 @@ u_w_document : DocumentBytes U W (0 ∷ 0 ∷ [])
 u_w_document =
     record {
       tree = node 0 none;
-      document = record { first = start; listed = refl; starts = (refl, refl); leads = refl; built = ((least_zero, empty_first (λ u. LiveSequence (over_zero U) 0 u × (allowed (over_zero W) 0 u ≡ false)) ((refl, tt), refl)), tt) };
+      document = record {
+        first = start;
+        listed = refl;
+        starts = (refl, refl);
+        leads = refl;
+        built = ((least_zero, empty_first (λ u. LiveSequence (over_zero U) 0 u × (allowed (over_zero W) 0 u ≡ false)) ((refl, tt), refl)), tt);
+      };
       written = refl;
     }
 
@@ -130,7 +142,10 @@ pub u_v_examined :
 u_v_examined w = record { pair = start; at = refl; outcome = inr (unbroken, ((λ a. false), dead_symbols, refl)) }
   where
     unbroken : Unbroken (over_zero U) (over_zero V) 0 0
-    unbroken = record { values = λ v h. h; contents = λ w live. subst (λ x. allowed (over_zero V) 0 x ≡ true) (sym (just_empty w live)) refl }
+    unbroken = record {
+      values = λ v h. h;
+      contents = λ w live. subst (λ x. allowed (over_zero V) 0 x ≡ true) (sym (just_empty w live)) refl;
+    }
 
     dead_symbols : (a : ℕ) → Decides false (LiveSymbol (over_zero U) 0 a)
     dead_symbols a = (λ no. absurd (false≢true no), λ live. absurd (none-some _ (sym (nowhere a) ∙ (live_leads (over_zero U) 0 a live).1)))
@@ -185,7 +200,13 @@ module _ (S T : Tables) where
       settled true (Apart Content) 1 (λ yes. alive, λ live. refl)
       (λ w.
       let after = examined_to (begun w S T true) (start ∷ []) (Ready (Apart Content)) in
-      record { after = after; stepped = one_turn (over_zero S) (over_zero T) (begun w S T true) after (Apart Content) MOST_STEPS refl (broken_examined S T w broken) refl (omega arith); verdict = refl; count = refl; kind = λ j k apart last. by k last.pair (same_Some _ _ last.at) last.broken })
+      record {
+        after = after;
+        stepped = one_turn (over_zero S) (over_zero T) (begun w S T true) after (Apart Content) MOST_STEPS refl (broken_examined S T w broken) refl (omega arith);
+        verdict = refl;
+        count = refl;
+        kind = λ j k apart last. by k last.pair (same_Some _ _ last.at) last.broken;
+      })
     where
       by :
           (k : Kind) (pair : Listed) → start ≡ pair →
@@ -204,12 +225,24 @@ u_v =
     settled U V true Included 1 (λ yes. alone_U, λ live. refl)
     (λ w.
     let after = examined_to (begun w U V true) (start ∷ []) (Ready Included) in
-    record { after = after; stepped = one_turn (over_zero U) (over_zero V) (begun w U V true) after Included MOST_STEPS refl (u_v_examined w) refl (omega arith); verdict = refl; count = refl; kind = λ j k apart last. not_apart j k apart })
+    record {
+      after = after;
+      stepped = one_turn (over_zero U) (over_zero V) (begun w U V true) after Included MOST_STEPS refl (u_v_examined w) refl (omega arith);
+      verdict = refl;
+      count = refl;
+      kind = λ j k apart last. not_apart j k apart;
+    })
 
 w_u : ComesTo W U Included 0
 w_u =
     settled W U false Included 0 (λ no. absurd (false≢true no), λ live. absurd (dead_W live))
-    (λ w. record { after = begun w W U false; stepped = record { taken = 0; few = omega arith; turns = refl; until = λ still. absurd (false≢true (ap is_running still)) }; verdict = refl; count = refl; kind = λ j k apart last. not_apart j k apart })
+    (λ w. record {
+      after = begun w W U false;
+      stepped = record { taken = 0; few = omega arith; turns = refl; until = λ still. absurd (false≢true (ap is_running still)) };
+      verdict = refl;
+      count = refl;
+      kind = λ j k apart last. not_apart j k apart;
+    })
 
 pub marked_cases : MarkedCases
 marked_cases =

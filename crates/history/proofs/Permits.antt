@@ -57,13 +57,21 @@ module _ (w : Work) (n : Numbers) where
   pub held_by_near : of_another w n.area ≡ None → held_by w n.serial ≡ true → Held n w
   held_by_near near held =
       let parts = and_parts _ (eqb n.serial w.serial) held in
-      record { number = sym (eqb-true n.area w.number (not-false _ (fails _ _ near))); serial = sym (eqb-true n.serial w.serial parts.1); busy = not-true _ parts.0 }
+      record {
+        number = sym (eqb-true n.area w.number (not-false _ (fails _ _ near)));
+        serial = sym (eqb-true n.serial w.serial parts.1);
+        busy = not-true _ parts.0;
+      }
 
   pub holder_held : is_holder w n ≡ true → Held n w
   holder_held so =
       let near = and_parts (eqb n.area w.number) _ so in
       let held = and_parts _ (eqb n.serial w.serial) near.1 in
-      record { number = sym (eqb-true n.area w.number near.0); serial = sym (eqb-true n.serial w.serial held.1); busy = not-true _ held.0 }
+      record {
+        number = sym (eqb-true n.area w.number near.0);
+        serial = sym (eqb-true n.serial w.serial held.1);
+        busy = not-true _ held.0;
+      }
 
   -- and its claim is the holder where it holds the area
   held_by_held : Held n w → held_by w n.serial ≡ true

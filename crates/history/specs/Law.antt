@@ -68,34 +68,9 @@ pub record SymbolsWritten (way : List Listed) (o : List ℕ) (size : ℕ) (o' : 
   pub answer : size ≡ length way
   pub bytes : o' ≡ overwritten o 0 (symbols_of way)
 
-module _ (A B : Automaton) (k : Kind) (es : List Listed) (i : ℕ) (way : List Listed) where
-  -- the bytes of a tree stand at the output's front, and so many were answered: it is built along
-  -- the way, and accepted by the first automaton alone
-  pub record TreeWritten (o : List ℕ) (size : ℕ) (o' : List ℕ) : Type 0 where
-    pub tree : Tree
-    pub document : DocumentOf A B k es i way tree
-    pub first : accepts A 0 tree ≡ true
-    pub second : accepts B 0 tree ≡ false
-    pub answer : size ≡ length (tree_bytes tree)
-    pub bytes : o' ≡ overwritten o 0 (tree_bytes tree)
-
--- an accepted trail call with these numbers wrote the symbols of the way; nothing is said of other
--- calls
-abbrev pub WritesTrail : Numbers → List Listed → Call → Type 0
-WritesTrail n way (trail m o (Ok size) o') = same_numbers n m ≡ true → SymbolsWritten way o size o'
-WritesTrail n way d = Unit {0}
-
--- an accepted document call with these numbers and schemas wrote the tree along the way; nothing is
--- said of other calls
-abbrev pub WritesDocument : Numbers → Handed → Kind → List Listed → ℕ → List Listed → Call → Type 0
-WritesDocument n g k es i way (document m h slots levels o (Ok size) o') =
-    same_numbers n m ≡ true → Same g h → TreeWritten (first_automaton g) (second_automaton g) k es i way o size o'
-WritesDocument n g k es i way d = Unit {0}
-
--- what the comparison of these schemas and numbers has written by a list of calls, which leave the
--- area so
-pub record WroteBy (g : Handed) (n : Numbers) (calls : List Call) (now : Area) : Type 0 where
-  -- it listed these pairs, (0, 0) first
+-- a list of pairs in which one is broken, and the way to that one
+pub record BrokenInList (g : Handed) : Type 0 where
+  -- the list, with (0, 0) first
   pub pairs : List Listed
   pub starts : slice_get pairs 0 ≡ Some start
   -- the pair at this place is broken, in this kind
@@ -111,16 +86,43 @@ pub record WroteBy (g : Handed) (n : Numbers) (calls : List Call) (now : Area) :
   pub live : LivePath (first_automaton g) 0 (symbols_of way) entry.first
   -- and lead in the second too
   pub beside : Path (second_automaton g) 0 (symbols_of way) entry.second
-  -- each accepted trail call of it wrote the symbols of this way
-  pub trails : AllByRecursion (WritesTrail n way) calls
-  -- each accepted document call of it that was handed its schemas wrote the tree along this way
-  pub documents : AllByRecursion (WritesDocument n g kind pairs index way) calls
+
+-- the bytes of a tree stand at the output's front, and so many were answered: it is built along the way
+-- to the broken pair, and accepted by the first automaton alone
+pub record TreeWritten (g : Handed) (b : BrokenInList g) (o : List ℕ) (size : ℕ) (o' : List ℕ) : Type 0 where
+  pub tree : Tree
+  pub document : DocumentOf (first_automaton g) (second_automaton g) b.kind b.pairs b.index b.way tree
+  pub first : accepts (first_automaton g) 0 tree ≡ true
+  pub second : accepts (second_automaton g) 0 tree ≡ false
+  pub answer : size ≡ length (tree_bytes tree)
+  pub bytes : o' ≡ overwritten o 0 (tree_bytes tree)
+
+-- an accepted trail call with these numbers wrote the symbols of the way; nothing is said of other calls
+abbrev pub WritesTrail : Numbers → List Listed → Call → Type 0
+WritesTrail n way (trail m o (Ok size) o') = same_numbers n m ≡ true → SymbolsWritten way o size o'
+WritesTrail n way d = Unit {0}
+
+-- an accepted document call with these numbers and schemas wrote the tree along the way; nothing is said
+-- of other calls
+abbrev pub WritesDocument : Numbers → (g : Handed) → BrokenInList g → Call → Type 0
+WritesDocument n g b (document m h slots levels o (Ok size) o') =
+    same_numbers n m ≡ true → Same g h → TreeWritten g b o size o'
+WritesDocument n g b d = Unit {0}
+
+-- what the comparison of these schemas and numbers has written by a list of calls, which leave the area so
+pub record WroteBy (g : Handed) (n : Numbers) (calls : List Call) (now : Area) : Type 0 where
+  -- it listed pairs, and came to one that is broken
+  pub found : BrokenInList g
+  -- each accepted trail call of it wrote the symbols of the way to that pair
+  pub trails : AllByRecursion (WritesTrail n found.way) calls
+  -- each accepted document call of it that was handed its schemas wrote the tree along that way
+  pub documents : AllByRecursion (WritesDocument n g found) calls
   -- while its claim is the holder, the area is apart by that kind
-  pub apart : held_by (said now) n.serial ≡ true → (said now).phase ≡ phase.Apart kind
+  pub apart : held_by (said now) n.serial ≡ true → (said now).phase ≡ phase.Apart found.kind
   -- and has these pairs
-  pub listed : held_by (said now) n.serial ≡ true → (said now).pairs ≡ pairs
+  pub listed : held_by (said now) n.serial ≡ true → (said now).pairs ≡ found.pairs
   -- and this broken one
-  pub breaks : held_by (said now) n.serial ≡ true → broken_index (said now) ≡ index
+  pub breaks : held_by (said now) n.serial ≡ true → broken_index (said now) ≡ found.index
 
 -- what a comparison has written
 abbrev pub Wrote : {a : Area} → Comparison a → Type 0
