@@ -16,10 +16,10 @@ use Rattle.search.specs.declared.listed.Listed.{Listed}
 use Rattle.search.specs.declared.pairs.RowPair.{RowPair}
 use Rattle.search.specs.declared.search.Question.{Question}
 use Rattle.search.specs.Listing.{lists, Added, Known, Enlists}
-use Rattle.search.specs.Pairs.{Traces, first_pair, next_pair, goal, Finds}
+use Rattle.search.specs.Pairs.{Traces, first_row_pair, next_row_pair, goal, Finds}
 use Rattle.search.specs.Questions.{automaton_asked}
 use Rattle.search.specs.Sequences.{Sought}
-use Rattle.search.specs.Watching.{Watching, StatesBelow}
+use Rattle.search.specs.Watching.{Watching, WatcherStatesBelow}
 use Rattle.search.proofs.Breadth.{not_deeper, leads, Met, Midway, none_left, found_before, tried, done, new_sequence, new_leads, grown, begun}
 use Rattle.search.proofs.Listing.{Noted, nothing_noted, noted_few, room_left, noted_more}
 use Rattle.search.proofs.Moves.{Place, place_of, move, is_goal, first, move_steps, sought_of_goal, goal_of_sought, pair_moves, pair_stays}
@@ -56,7 +56,7 @@ module _ (A : Automaton) (q : ℕ) (set : ℕ → Bool) (W : Watching) (rows sym
   -- entry k is being tried, its symbols below b were; each entry's row is one of the state's
   pub record Underway (l : Listed) (pile : Stack RowPair) (k b : ℕ) : Type 0 where
     pub fence : Fenced A q rows symbols
-    pub below : StatesBelow states W
+    pub below : WatcherStatesBelow states W
     pub narrow : states ≤ 17
     pub midway : Half pile.entries k b
     pub noted : Noted states l pile.entries
@@ -128,11 +128,11 @@ module _ (A : Automaton) (q : ℕ) (set : ℕ → Bool) (W : Watching) (rows sym
         }
 
     -- it leads nowhere
-    pub leads_nowhere : next_pair A q set W p b k ≡ None → Trying l pile k (b + 1) p
+    pub leads_nowhere : next_row_pair A q set W p b k ≡ None → Trying l pile k (b + 1) p
     leads_nowhere none = tried_there (λ n to. absurd (pair_stays A q set W p b k n none to))
 
     -- it leads to a pair
-    module _ {f : RowPair} (is : next_pair A q set W p b k ≡ Some f) (state-fits : p.watch < 256) where
+    module _ {f : RowPair} (is : next_row_pair A q set W p b k ≡ Some f) (state-fits : p.watch < 256) where
       narrow : f.watch < states
       narrow =
           let m = pair_moves A q set W p f b k is in
@@ -194,7 +194,7 @@ module _ (A : Automaton) (q : ℕ) (set : ℕ → Bool) (W : Watching) (rows sym
             answered pile'.entries i w (place_of f) read new.leads_to there first (omega (arith, at, ap length grows, length_push es f)) (omega (arith, at, room))
 
   -- before the first turn: nothing is listed, and the pair of the first row and the watcher's start comes on an empty pile
-  module _ (fence : Fenced A q rows symbols) (below : StatesBelow states W) (narrow : states ≤ 17) (l : Listed) (pile : Stack RowPair) (p : RowPair) (l' : Listed) (pile' : Stack RowPair) (none : (r s : ℕ) → lists l r s ≡ false) (empty : pile.entries ≡ []) (room : 272 ≤ length pile.free) (is : p ≡ first_pair W) where
+  module _ (fence : Fenced A q rows symbols) (below : WatcherStatesBelow states W) (narrow : states ≤ 17) (l : Listed) (pile : Stack RowPair) (p : RowPair) (l' : Listed) (pile' : Stack RowPair) (none : (r s : ℕ) → lists l r s ≡ false) (empty : pile.entries ≡ []) (room : 272 ≤ length pile.free) (is : p ≡ first_row_pair W) where
     starts_low : p.watch < states
     starts_low = omega (arith, below.start, ap {B = ℕ} (λ (x : RowPair). x.watch) is)
 
