@@ -6,6 +6,7 @@ use Rattle.codec.specs.Trees.{Tree}
 use Rattle.schema.specs.Automata.{Automaton, accepts}
 use Rattle.schema.specs.Live.{Live, LiveSymbol, LivePath}
 use Rattle.schema.specs.Tables.{Tables, automaton}
+use Rattle.search.specs.Paths.{BreadthFirst}
 use Rattle.compare.specs.declared.area.Area.{Area}
 use Rattle.compare.specs.declared.claim.Apart.{Apart}
 use Rattle.compare.specs.declared.claim.Comparing.{Comparing}
@@ -22,6 +23,7 @@ use Rattle.compare.specs.Beginning.{Beginning}
 use Rattle.compare.specs.Breaking.{Broken, Unbroken, ToldApart}
 use Rattle.compare.specs.Concluding.{Conclusion}
 use Rattle.compare.specs.Pairs.{start, listed}
+use Rattle.compare.specs.Listing.{pair_links}
 use Rattle.compare.specs.Stepping.{Stepping}
 use Rattle.compare.specs.Trailing.{Trail}
 use Rattle.compare.specs.Work.{Work, said}
@@ -84,6 +86,10 @@ module _ (A B : Automaton) where
     pub examined : (i : ℕ) (e : Listed) → i < settled w.phase w.examined → slice_get w.pairs i ≡ Some e
         → Passed w.pairs e
     pub stands : Stands w w.phase
+    -- breadth first: the pairs stand in the order of those that led to them, and of their symbols there
+    pub ordered : BreadthFirst pair_links w.pairs
+    -- an examined pair led to each but the first
+    pub led : (i : ℕ) (e : Listed) → 0 < i → slice_get w.pairs i ≡ Some e → e.parent < w.examined
 
 -- it holds as a comparison begins
 unfoldable pub BeginsGrown : Type 0

@@ -7,6 +7,7 @@ use Rattle.schema.specs.Automata.{Automaton}
 use Rattle.schema.specs.Faults.{either_fault}
 use Rattle.schema.specs.Live.{LiveSymbol}
 use Rattle.schema.specs.Tables.{Tables, automaton}
+use Rattle.search.specs.Scratch.{short_scratch}
 use Rattle.compare.specs.declared.area.Area.{Area}
 use Rattle.compare.specs.declared.claim.Numbers.{Numbers}
 use Rattle.compare.specs.declared.pairs.Listed.{Listed}
@@ -16,7 +17,7 @@ use Rattle.compare.specs.declared.phase.Phase.TheVariants as phase
 use Rattle.compare.specs.declared.phase.Verdict.TheVariants as verdict
 use Rattle.compare.specs.Breaking.{Broken, Unbroken}
 use Rattle.compare.specs.Pairs.{with_pair}
-use Rattle.compare.specs.Refusals.{held_kept_from, wrong_steps, short_scratch}
+use Rattle.compare.specs.Refusals.{held_kept_from, wrong_steps}
 use Rattle.compare.specs.Work.{Work, said, in_phase}
 
 -- the pair of two next states, where both are there and the symbol is live; i is the place of the pair that

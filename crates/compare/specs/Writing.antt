@@ -3,13 +3,14 @@ use Rattle.std.specs.Prelude.{◌≡◌, ℕ, [], ◌∷◌, Some, None, Option}
 use Rattle.refusal.specs.declared.fault.Refusal.{Refusal}
 use Rattle.refusal.specs.Order.{first_of}
 use Rattle.schema.specs.Tables.{Tables}
+use Rattle.search.specs.Scratch.{short_scratch}
 use Rattle.compare.specs.declared.area.Area.{Area}
 use Rattle.compare.specs.declared.claim.Numbers.{Numbers}
 use Rattle.compare.specs.declared.event.Event.TheVariants.{Write}
 use Rattle.compare.specs.declared.phase.Kind.{Kind}
 use Rattle.compare.specs.declared.phase.Phase.TheVariants.{Apart}
 use Rattle.compare.specs.declared.writing.BrokenPair.{BrokenPair}
-use Rattle.compare.specs.Refusals.{held_kept_from, phase_refuses, short_scratch}
+use Rattle.compare.specs.Refusals.{held_kept_from, phase_refuses}
 use Rattle.compare.specs.Trailing.{broken_index}
 use Rattle.compare.specs.Work.{Work, said}
 

@@ -1,8 +1,9 @@
 //! The work area: one comparison at a time, with the pairs that it has listed and how many of them are examined.
+ghost use Rattle.refusal.specs.Order.{Refuses};
 ghost use Rattle.std.specs.Prelude.{◌≡◌, false, ◌==◌};
 ghost use Rattle.compare.specs.Beginning.{«kept_from»};
 ghost use Rattle.compare.specs.Concluding.{claim_refusal};
-ghost use Rattle.compare.specs.Refusals.{Refuses, phase_refuses, holder_refusal};
+ghost use Rattle.compare.specs.Refusals.{phase_refuses, holder_refusal};
 ghost use Rattle.compare.specs.Schemas.{begun_by};
 ghost use Rattle.schema.specs.Meaning.{tables_of};
 ghost use Rattle.compare.specs.Work.{said, free};
@@ -75,7 +76,9 @@ impl Area {
         second: &Tested<D>,
         event: Event,
     ) -> Result<(), Refusal>
-        ensures { Refuses (kept_from (said self.now) (tables_of first.now) (tables_of second.now) event) result }
+        ensures { Refuses
+            (kept_from (said self.now) (tables_of first.now) (tables_of second.now) event)
+            result }
     {
         if first.symbols() != second.symbols() {
             return Err(refusal(self, Fault::Symbols));
