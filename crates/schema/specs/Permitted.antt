@@ -1,4 +1,5 @@
--- Permitted symbols: a schema as if the others had no next state, and trees that hold no other. Assumes nothing.
+-- Permitted symbols: a schema as if the others had no next state, and trees that hold no other.
+-- Assumes nothing.
 use Rattle.std.specs.Prelude.{ℕ, Bool, true, cond, ◌&&◌, None}
 use Rattle.codec.specs.Trees.{Tree, node, Children, none, child}
 use Rattle.bits.specs.Bits.{bit}

@@ -1,4 +1,5 @@
--- What is asked: a state of a schema, the symbols that may be used there, and a watcher. Assumes nothing.
+-- What is asked: a state of a schema, the symbols that may be used there, and a watcher. Assumes
+-- nothing.
 use Rattle.std.specs.Prelude.{ℕ, Bool, List, Some, None, Option}
 use Rattle.bits.specs.Bits.{bit}
 use Rattle.schema.specs.Automata.{Automaton}
