@@ -22,9 +22,9 @@ abbrev pub begin_refusal : Work → Tables → Tables → Event → Option Refus
 begin_refusal w T U e = first_of (either_fault T U ∷ kept_from w T U e ∷ [])
 
 -- a comparison has begun, and the claim carries the area's number and the new serial
-pub record Begins (T U : Tables) (domains : List (ℕ → Bool)) (w : Work) (claim : Lease Comparing) (w' : Work) : Type 0 where
+pub record Begins (T U : Tables) (sets : List (ℕ → Bool)) (w : Work) (claim : Lease Comparing) (w' : Work) : Type 0 where
   pub live : Bool
-  pub decides : Decides live (Live (automaton T domains) 0)
+  pub decides : Decides live (Live (automaton T sets) 0)
   pub after : w' ≡ begun w T U live
   pub number : claim.numbers.area ≡ w.number
   pub serial : claim.numbers.serial ≡ w.serial + 1

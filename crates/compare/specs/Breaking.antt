@@ -1,4 +1,5 @@
--- Pairs of states: what breaks one, what a set of unbroken pairs says of the trees, and which tree a broken pair tells of. Assumes nothing.
+-- Pairs of states: what breaks one, what a set of unbroken pairs says of the trees, and which tree a
+-- broken pair tells of. Assumes nothing.
 use Rattle.std.specs.Prelude.{◌≡◌, ℕ, Bool, true, false, List, Some}
 use Rattle.codec.specs.Trees.{Tree}
 use Rattle.schema.specs.Automata.{Automaton, allowed, accepts}

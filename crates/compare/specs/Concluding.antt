@@ -36,9 +36,13 @@ Conclusion a claim (Ok c) a' =
 Conclusion a claim (Err e) a' =
     (claim_refusal (said a) claim.numbers Conclude ≡ Some e.0) × (e.1 ≡ claim) × (a' ≡ a)
 
+-- the area is free, and 1 is answered
+abbrev pub Frees : Area → ℕ → Area → Type 0
+Frees a n a' = (n ≡ 1) × (said a' ≡ free a.number a.serial)
+
 -- giving up frees the area for the holder, and changes nothing for any other claim of the area
 abbrev pub GivesUp : Area → ℕ → ℕ → Area → Type 0
-GivesUp a serial n a' = cond (held_by (said a) serial) ((n ≡ 1) × (said a' ≡ free (said a).number (said a).serial)) ((n ≡ 0) × (a' ≡ a))
+GivesUp a serial n a' = cond (held_by (said a) serial) (Frees a n a') ((n ≡ 0) × (a' ≡ a))
 
 -- the one outcome of giving up a claim with these numbers: 1 or 0, or `foreign`, which leaves the whole
 -- area as found

@@ -11,11 +11,14 @@ module _ {D : Type 0} (holds : D → ℕ → Bool) (c : Compared D) where
   -- live
   abbrev pub next_of : Listed → ℕ → Bool → ℕ → Option Listed
   next_of e i live a =
-      next_pair i a live ((meaning holds c.first.now).next e.first a) ((meaning holds c.second.now).next e.second a)
+      next_pair i a live
+      ((meaning holds c.first.now).next e.first a)
+      ((meaning holds c.second.now).next e.second a)
 
   -- the list with the pairs of next states of a pair at place i under the live symbols below n
   abbrev pub nexts_of : Listed → ℕ → (ℕ → Bool) → ℕ → List Listed → List Listed
-  nexts_of e i live n es = with_nexts (meaning holds c.first.now) (meaning holds c.second.now) live e.first e.second i n es
+  nexts_of e i live n es =
+      with_nexts (meaning holds c.first.now) (meaning holds c.second.now) live e.first e.second i n es
 
   -- the pairs of next states of a pair are listed
   abbrev pub GoesOnIn : Work → Listed → ℕ → Work → Type 0

@@ -94,13 +94,15 @@ module _ (A B : Automaton) where
 -- it holds as a comparison begins
 unfoldable pub BeginsGrown : Type 0
 BeginsGrown =
-    (e : Event) (T U : Tables) (sets others : List (ℕ → Bool)) (a : Area) (claim : Lease Comparing) (a' : Area)
+    (e : Event) (T U : Tables) (sets others : List (ℕ → Bool))
+    (a : Area) (claim : Lease Comparing) (a' : Area)
     → Beginning e T U sets a (Ok claim) a' → Grown (automaton T sets) (automaton U others) (said a')
 
 -- an accepted step of the same schemas keeps it
 unfoldable pub StepsGrown : Type 0
 StepsGrown =
-    (T U : Tables) (sets others : List (ℕ → Bool)) (claim : Numbers) (n slots : ℕ) (a : Area) (answer : ℕ × ℕ) (a' : Area)
+    (T U : Tables) (sets others : List (ℕ → Bool)) (claim : Numbers) (n slots : ℕ)
+    (a : Area) (answer : ℕ × ℕ) (a' : Area)
     → Stepping T U sets others claim n slots a (Ok answer) a'
     → Grown (automaton T sets) (automaton U others) (said a)
     → Grown (automaton T sets) (automaton U others) (said a')
@@ -108,7 +110,8 @@ StepsGrown =
 -- a conclusion apart keeps it
 unfoldable pub ConcludesGrown : Type 0
 ConcludesGrown =
-    (A B : Automaton) (a : Area) (claim : Lease Comparing) (k : Kind) (n : ℕ) (apart : Lease Apart) (a' : Area)
+    (A B : Automaton) (a : Area) (claim : Lease Comparing)
+    (k : Kind) (n : ℕ) (apart : Lease Apart) (a' : Area)
     → Conclusion a claim (Ok (concluded.Apart k n apart)) a' → Grown A B (said a) → Grown A B (said a')
 
 -- it depends on no more than what the automata say

@@ -1,4 +1,5 @@
--- What a list of pairs says: its state counts and its listed entries, and what follows from what is kept of it. Assumes nothing.
+-- What a list of pairs says: its state counts and its listed entries, and what follows from what is kept
+-- of it. Assumes nothing.
 use Rattle.std.specs.Prelude.{◌≡◌, ℕ, ◌*◌, ◌≤◌, List, length, take, Some}
 use Rattle.std.specs.List.{slice_get}
 use Rattle.search.specs.Paths.{Links}

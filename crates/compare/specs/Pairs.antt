@@ -1,4 +1,5 @@
--- The list of pairs of states of a work area: what is kept of it at every moment, and what listing one more leaves. Assumes nothing.
+-- The list of pairs of states of a work area: what is kept of it at every moment, and what listing one
+-- more leaves. Assumes nothing.
 use Rattle.std.specs.Prelude.{ℕ, zero, suc, ◌^◌, ◌<◌, Bool, true, false, cond, not, ◌&&◌, ◌||◌, List, [], ◌∷◌, ◌++◌, length, get_or, take, ◌==◌, nat_le, nat_lt, slice_index, slice_index_or}
 use Rattle.bits.specs.Bits.{bit}
 use Rattle.schema.specs.declared.tables.TheConstants.{STATES}
@@ -52,7 +53,8 @@ all_fit n m es = all_below (length es) (λ i. fits n m i (slice_index_or es i st
 
 -- no entry has the two states of an earlier one
 unfoldable pub none_twice : List Listed → Bool
-none_twice es = all_below (length es) (λ i. not (listed (take i es) (get_or es i start).first (get_or es i start).second))
+none_twice es =
+    all_below (length es) (λ i. not (listed (take i es) (get_or es i start).first (get_or es i start).second))
 
 -- bit q of the mask at p says whether the pair is listed
 unfoldable pub bits_say : List ℕ → List Listed → Bool

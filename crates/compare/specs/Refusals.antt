@@ -1,4 +1,5 @@
--- The refusals of the area's calls, each as the test that finds it. Their place is the area's serial. Assumes nothing.
+-- The refusals of the area's calls, each as the test that finds it. Their place is the area's serial.
+-- Assumes nothing.
 use Rattle.std.specs.Prelude.{ℕ, Bool, cond, not, ◌&&◌, ◌||◌, [], ◌∷◌, Some, None, Option, ◌==◌, nat_lt}
 use Rattle.refusal.specs.declared.fault.Fault.{Fault}
 use Rattle.refusal.specs.declared.fault.Fault.TheVariants.{Symbols, Worn, Foreign, Ousted, Schemas, Steps}

@@ -42,7 +42,8 @@ broken_index w = cond (nat_lt (w.examined - 1) (length w.pairs)) (w.examined - 1
 
 -- `room`: the output is too short for the bytes, and the place is how many are needed
 abbrev pub no_room : List ℕ → List ℕ → Option Refusal
-no_room output w = cond (nat_lt (length output) (length w)) (Some (record { fault = Room; place = length w })) None
+no_room output w =
+    cond (nat_lt (length output) (length w)) (Some (record { fault = Room; place = length w })) None
 
 -- the refusal of writing a trail: what is refused of the claim, or `room`
 abbrev pub trail_refusal : Work → Numbers → List ℕ → List ℕ → Option Refusal

@@ -36,7 +36,16 @@ said a = record {
 
 -- an area without a comparison: nothing is noted, listed or examined
 abbrev pub free : ℕ → ℕ → Work
-free number serial = record { number = number; serial = serial; phase = Free; symbols = 0; firsts = 0; seconds = 0; pairs = []; examined = 0 }
+free number serial = record {
+  number = number;
+  serial = serial;
+  phase = Free;
+  symbols = 0;
+  firsts = 0;
+  seconds = 0;
+  pairs = [];
+  examined = 0;
+}
 
 -- a comparison of two schemas begins: the serial is one higher, the counts are noted, nothing earlier
 -- stays; (0, 0) is listed where the first schema's state 0 is live, and otherwise the area is ready with

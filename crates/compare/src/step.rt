@@ -39,7 +39,8 @@ struct Leading {
 }
 
 impl Leading {
-    /// The pair that it leads to under a symbol: that of the next states, where the symbol is live and both are there.
+    /// The pair that it leads to under a symbol: that of the next states, where the symbol is live
+    /// and both are there.
     fn next<D: Domain>(self, compared: &Compared<D>, symbol: u8) -> Option<Listed>
         ensures { result ≡
             next_of D.Domain.holds compared.now self.pair self.place
@@ -76,7 +77,8 @@ impl Leading {
 }
 
 impl Area {
-    /// Lists what an unbroken pair leads to; the pair is at a place of the list. The verdict stands where no pair is left behind it.
+    /// Lists what an unbroken pair leads to; the pair is at a place of the list. The verdict stands
+    /// where no pair is left behind it.
     fn go_on<D: Domain>(&mut self, compared: &Compared<D>, pair: Listed, place: u16)
         ensures { Noted compared.now (said self.old) → MarksLive D.Domain.holds compared.now →
             StatePair compared.now pair.first pair.second → place < length (entries_of self.old.pairs) →
@@ -130,7 +132,8 @@ impl Area {
         }
     }
 
-    /// The row pairs for a step, or what keeps two schemas from it: `symbols`, `foreign`, `ousted`, `schemas`, `steps` or `scratch`.
+    /// The row pairs for a step, or what keeps two schemas from it: `symbols`, `foreign`, `ousted`,
+    /// `schemas`, `steps` or `scratch`.
     fn permits_step<'a, D>(
         &self,
         first: &Tested<D>,
@@ -150,7 +153,8 @@ impl Area {
         RowSlots::new(scratch)
     }
 
-    /// Refuses what keeps two schemas from what the holder of the claim asks: `symbols`, `foreign`, `ousted` or `schemas`.
+    /// Refuses what keeps two schemas from what the holder of the claim asks: `symbols`, `foreign`,
+    /// `ousted` or `schemas`.
     pub(crate) fn permits_held<D>(
         &self,
         first: &Tested<D>,
@@ -182,7 +186,8 @@ impl Area {
     }
 
     /// 1 where the verdict stands, and 0 while the area runs.
-    // Two numbers, as docs/area.md has it: the pairs examined, and 1 where the verdict stands or else 0.
+    // Two numbers, as docs/area.md has it: the pairs examined, and 1 where the verdict stands or
+    // else 0.
     fn mark(&self) -> u32
         ensures { result ≡ (if is_running self.now.phase then 0 else 1) }
     {

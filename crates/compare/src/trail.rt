@@ -33,7 +33,8 @@ fn trail_length(pairs: &Pairs, index: usize) -> usize
     }
 }
 
-/// Writes the trail of a listed pair at the output's front, where it has room, and gives the place after it.
+/// Writes the trail of a listed pair at the output's front, where it has room, and gives the place
+/// after it.
 fn write_trail(pairs: &Pairs, index: usize, output: &mut [u8]) -> usize
     ensures most { result ≤ index }
     ensures written { TrailWritten (entries_of pairs.now) index output.old result output.new }

@@ -1,4 +1,5 @@
-//! What writing a document asks of an area: whether the claim's holder may have one, and the broken pair that it is of.
+//! What writing a document asks of an area: whether the claim's holder may have one, and the broken
+//! pair that it is of.
 ghost use Rattle.std.specs.Prelude.{length};
 ghost use Rattle.refusal.specs.Order.{Refuses};
 ghost use Rattle.schema.specs.Meaning.{tables_of};
@@ -16,7 +17,8 @@ use schema::tested::Tested;
 use search::pairs::RowPair;
 use search::slots::RowSlots;
 
-/// The broken pair of a comparison that came out apart: the list that it stands in, its index there, and how it is broken.
+/// The broken pair of a comparison that came out apart: the list that it stands in, its index
+/// there, and how it is broken.
 #[derive(Clone, Copy)]
 pub struct BrokenPair<'a> {
     pub pairs: &'a Pairs,
