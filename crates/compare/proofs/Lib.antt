@@ -10,6 +10,7 @@ pub mod Growing
 pub mod Keeping
 pub mod Laws
 pub mod Nexts
+pub mod Ordering
 pub mod Outcomes
 pub mod Sought
 pub mod Standing

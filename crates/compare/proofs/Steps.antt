@@ -5,7 +5,7 @@ use Rattle.std.proofs.lemmas.List.{get_or_append_left, get_or_push, get_or-repli
 use Rattle.std.proofs.lemmas.Bool.{cases_Bool, cases_eq, cases_lt}
 use Rattle.bits.specs.Bits.{bit}
 use Rattle.bits.proofs.Members.{bit_zero, none_past}
-use Rattle.search.proofs.Listing.{listed_more}
+use Rattle.search.proofs.Visits.{listed_more}
 use Rattle.compare.specs.declared.pairs.Listed.{Listed}
 use Rattle.compare.specs.Pairs.{start, is_of, listed, kept_pairs, Fits}
 use Rattle.compare.proofs.Crowding.{few, room}

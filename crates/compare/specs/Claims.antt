@@ -1,4 +1,5 @@
--- Answers that carry a claim: what they say without it, and that the very claim comes back. Assumes nothing.
+-- Answers that carry a claim: what they say without it, and that the very claim comes back. Assumes
+-- nothing.
 use Rattle.std.specs.Prelude.{◌≡◌, Ok, Err, Result}
 use Rattle.refusal.specs.declared.fault.Refusal.{Refusal}
 use Rattle.compare.specs.declared.claim.Lease.{Lease}

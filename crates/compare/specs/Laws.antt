@@ -1,4 +1,5 @@
--- What holds of every outcome of a call, and of every list of pairs: the laws that stand on the contracts. Assumes nothing.
+-- What holds of every outcome of a call, and of every list of pairs: the laws that stand on the
+-- contracts. Assumes nothing.
 use Rattle.compare.specs.declared.event.Event.{Event}
 use Rattle.compare.specs.Breaking.{ClosedCarries, BrokenTells, OnwardTells, UnbrokenOnward}
 use Rattle.compare.specs.Deciding.{BeginsAsDecided, StepsAsDecided, ConcludesAsDecided, ConclusionEarly, TrailsAsDecided, TrailNotEarly, GivesUpAsDecided}

@@ -1,6 +1,8 @@
--- What a list of pairs says: its state counts and its listed entries, and what follows from what is kept of it. Assumes nothing.
+-- What a list of pairs says: its state counts and its listed entries, and what follows from what is
+-- kept of it. Assumes nothing.
 use Rattle.std.specs.Prelude.{◌≡◌, ℕ, ◌*◌, ◌≤◌, List, length, take, Some}
 use Rattle.std.specs.List.{slice_get}
+use Rattle.search.specs.Paths.{Links}
 use Rattle.compare.specs.declared.pairs.Listed.{Listed}
 use Rattle.compare.specs.declared.pairs.Pairs.{Pairs}
 use Rattle.compare.specs.Pairs.{Fits}
@@ -8,6 +10,14 @@ use Rattle.compare.specs.Pairs.{Fits}
 -- the listed entries, in the order of listing
 abbrev pub entries_of : Pairs → List Listed
 entries_of p = take p.length p.entries
+
+-- how listed pairs are linked: each to the one that led to it, by the symbol that did
+abbrev pub pair_links : Links Listed
+pair_links = record { parent = λ e. e.parent; symbol = λ e. e.symbol }
+
+-- the two states of a listed pair
+abbrev pub pair_of : Listed → ℕ × ℕ
+pair_of e = (e.first, e.second)
 
 -- no more pairs are listed than there are pairs of states
 abbrev pub FewPairs : Type 0

@@ -1,4 +1,5 @@
--- Each call has one outcome: what it does is said by what it is handed, a claim by its numbers. Assumes nothing.
+-- Each call has one outcome: what it does is said by what it is handed, a claim by its numbers.
+-- Assumes nothing.
 use Rattle.std.specs.Prelude.{◌≡◌, ℕ, Bool, ◌⊎◌, List, Ok, Err, Result}
 use Rattle.refusal.specs.declared.fault.Refusal.{Refusal}
 use Rattle.schema.specs.Automata.{Automaton}
@@ -20,8 +21,8 @@ use Rattle.compare.specs.Stepping.{Stepping}
 use Rattle.compare.specs.Trailing.{Trailing}
 use Rattle.compare.specs.Work.{Work, said, in_phase}
 
--- the same is answered, where a relation says when two values are the same; refusals are equal, and what
--- goes back with them too
+-- the same is answered, where a relation says when two values are the same; refusals are equal, and
+-- what goes back with them too
 abbrev pub SameAnswer : {X E : Type 0} → (X → X → Type 0) → Result X E → Result X E → Type 0
 SameAnswer Same (Ok x) (Ok y) = Same x y
 SameAnswer Same (Err e) (Err f) = e ≡ f
@@ -37,23 +38,30 @@ SameConclusion (concluded.Included n) (concluded.Included m) = n ≡ m
 SameConclusion (concluded.Apart k n c) (concluded.Apart l m d) = (k ≡ l) × (n ≡ m) × SameClaim c d
 SameConclusion c d = ⊥
 
--- the same is said of two areas; or both are ready with apart, and differ at most in the kind: then the
--- pair examined last is broken in both ways
+-- the same is said of two areas; or both are ready with apart, and differ at most in the kind: then
+-- the pair examined last is broken in both ways
 abbrev pub ButForKind : Automaton → Automaton → Work → Work → Type 0
 ButForKind A B w v =
     (v ≡ w)
-    ⊎ ((k l : Kind) × (w.phase ≡ phase.Ready (verdict.Apart k)) × (v ≡ in_phase w (phase.Ready (verdict.Apart l))) × LastBroken A B w k × LastBroken A B w l)
+    ⊎ ((k l : Kind)
+    × (w.phase ≡ phase.Ready (verdict.Apart k))
+    × (v ≡ in_phase w (phase.Ready (verdict.Apart l)))
+    × LastBroken A B w k
+    × LastBroken A B w l)
 
 -- a beginning has one answer, and leaves one area
 unfoldable pub OneBeginning : Type 0
 OneBeginning =
-    (e : Event) (T U : Tables) (sets : List (ℕ → Bool)) (a : Area) (r s : Result (Lease Comparing) Refusal) (b c : Area)
+    (e : Event) (T U : Tables) (sets : List (ℕ → Bool))
+    (a : Area) (r s : Result (Lease Comparing) Refusal) (b c : Area)
     → Beginning e T U sets a r b → Beginning e T U sets a s c → SameAnswer SameClaim r s × (b ≡ c)
 
--- a step has one answer, and leaves one area, but for the kind of a pair that is broken in both ways
+-- a step has one answer, and leaves one area, but for the kind of a pair that is broken in both
+-- ways
 unfoldable pub OneStepping : Type 0
 OneStepping =
-    (T U : Tables) (sets others : List (ℕ → Bool)) (claim : Numbers) (n slots : ℕ) (a : Area) (r s : Result (ℕ × ℕ) Refusal) (b c : Area)
+    (T U : Tables) (sets others : List (ℕ → Bool)) (claim : Numbers) (n slots : ℕ)
+    (a : Area) (r s : Result (ℕ × ℕ) Refusal) (b c : Area)
     → Stepping T U sets others claim n slots a r b → Stepping T U sets others claim n slots a s c
     → (r ≡ s) × ButForKind (automaton T sets) (automaton U others) (said b) (said c)
 
@@ -66,11 +74,11 @@ OneConclusion =
 -- giving up has one answer, and leaves one area
 unfoldable pub OneGivingUp : Type 0
 OneGivingUp =
-    (a : Area) (claim : Numbers) (r s : Result ℕ Refusal) (b c : Area) →
-    GivingUp a claim r b → GivingUp a claim s c → (r ≡ s) × (b ≡ c)
+    (a : Area) (claim : Numbers) (r s : Result ℕ Refusal) (b c : Area)
+    → GivingUp a claim r b → GivingUp a claim s c → (r ≡ s) × (b ≡ c)
 
 -- a trail has one answer, and leaves one output
 unfoldable pub OneTrailing : Type 0
 OneTrailing =
-    (a : Area) (claim : Numbers) (output : List ℕ) (r s : Result ℕ Refusal) (one other : List ℕ) →
-    Trailing a claim output r one → Trailing a claim output s other → (r ≡ s) × (one ≡ other)
+    (a : Area) (claim : Numbers) (output : List ℕ) (r s : Result ℕ Refusal) (one other : List ℕ)
+    → Trailing a claim output r one → Trailing a claim output s other → (r ≡ s) × (one ≡ other)

@@ -1,11 +1,11 @@
--- The refusals of the area's calls, each as the test that finds it. Their place is the area's serial. Assumes nothing.
-use Rattle.std.specs.Prelude.{ℕ, ◌≡◌, Bool, cond, not, ◌&&◌, ◌||◌, [], ◌∷◌, Some, None, Ok, Err, Option, Result, ⊤, ◌==◌, nat_lt}
+-- The refusals of the area's calls, each as the test that finds it. Their place is the area's
+-- serial. Assumes nothing.
+use Rattle.std.specs.Prelude.{ℕ, Bool, cond, not, ◌&&◌, ◌||◌, [], ◌∷◌, Some, None, Option, ◌==◌, nat_lt}
 use Rattle.refusal.specs.declared.fault.Fault.{Fault}
-use Rattle.refusal.specs.declared.fault.Fault.TheVariants.{Symbols, Worn, Foreign, Ousted, Schemas, Steps, Scratch}
+use Rattle.refusal.specs.declared.fault.Fault.TheVariants.{Symbols, Worn, Foreign, Ousted, Schemas, Steps}
 use Rattle.refusal.specs.declared.fault.Refusal.{Refusal}
 use Rattle.refusal.specs.Order.{first_of}
 use Rattle.schema.specs.Tables.{Tables}
-use Rattle.search.specs.declared.pairs.TheConstants.{ROW_PAIRS}
 use Rattle.compare.specs.declared.area.TheConstants.{LAST_SERIAL}
 use Rattle.compare.specs.declared.claim.Numbers.{Numbers}
 use Rattle.compare.specs.declared.event.Decision.{Decision}
@@ -15,11 +15,6 @@ use Rattle.compare.specs.declared.event.Event.TheVariants.{Hold}
 use Rattle.compare.specs.declared.step.TheConstants.{MOST_STEPS}
 use Rattle.compare.specs.Phases.{decided}
 use Rattle.compare.specs.Work.{Work}
-
--- the answer of a test: nothing where it finds no refusal, and the refusal where it finds one
-abbrev pub Refuses : Option Refusal → Result ⊤ Refusal → Type 0
-Refuses o (Ok done) = o ≡ None
-Refuses o (Err e) = o ≡ Some e
 
 -- a refusal with the area's serial as its place, where a test finds it
 abbrev pub where_found : Bool → Work → Fault → Option Refusal
@@ -58,16 +53,12 @@ other_counts w T U = where_found (not (same_counts w T U)) w Schemas
 abbrev pub wrong_steps : Work → ℕ → Option Refusal
 wrong_steps w n = where_found (n == 0 || nat_lt MOST_STEPS n) w Steps
 
--- `scratch`: too few row pairs are lent; its place is how many are needed
-abbrev pub short_scratch : ℕ → Option Refusal
-short_scratch slots = cond (nat_lt slots ROW_PAIRS) (Some (record { fault = Scratch; place = ROW_PAIRS })) None
-
 -- `ousted`: the claim has another serial
 abbrev pub other_serial : Work → ℕ → Option Refusal
 other_serial w serial = where_found (not (serial == w.serial)) w Ousted
 
--- the test of the holder: the numbers are of another area or have another serial, or there is no holder in
--- this phase
+-- the test of the holder: the numbers are of another area or have another serial, or there is no
+-- holder in this phase
 abbrev pub holder_refusal : Work → Numbers → Option Refusal
 holder_refusal w n = first_of (of_another w n.area ∷ other_serial w n.serial ∷ phase_refuses w Hold ∷ [])
 

@@ -25,13 +25,16 @@ is_holder w n = n.area == w.number && held_by w n.serial
 abbrev pub stranger : Work → Numbers → Refusal
 stranger w n = record { fault = cond (n.area == w.number) Ousted Foreign; place = w.serial }
 
--- a step is refused: by a fault of the schemas, by `symbols`, or as a stranger's; the area stays as it was
+-- a step is refused: by a fault of the schemas, by `symbols`, or as a stranger's; the area stays as
+-- it was
 unfoldable pub StepOfStranger : Type 0
 StepOfStranger =
-    (T U : Tables) (sets others : List (ℕ → Bool)) (claim : Numbers) (n slots : ℕ) (a : Area) (r : Result (ℕ × ℕ) Refusal) (a' : Area)
+    (T U : Tables) (sets others : List (ℕ → Bool)) (claim : Numbers) (n slots : ℕ)
+    (a : Area) (r : Result (ℕ × ℕ) Refusal) (a' : Area)
     → Stepping T U sets others claim n slots a r a' → is_holder (said a) claim ≡ false → (e : Refusal)
     × (r ≡ Err e)
-    × (first_of (either_fault T U ∷ other_symbols (said a) T U ∷ Some (stranger (said a) claim) ∷ []) ≡ Some e)
+    × (first_of (either_fault T U ∷ other_symbols (said a) T U ∷ Some (stranger (said a) claim) ∷ [])
+    ≡ Some e)
     × (a' ≡ a)
 
 -- a conclusion is refused, and hands back the claim; the area stays as it was
@@ -44,13 +47,14 @@ ConclusionOfStranger =
 -- a trail is refused; the output stays as it was
 unfoldable pub TrailOfStranger : Type 0
 TrailOfStranger =
-    (a : Area) (claim : Numbers) (output : List ℕ) (r : Result ℕ Refusal) (output' : List ℕ) →
-    Trailing a claim output r output' → is_holder (said a) claim ≡ false →
-    (r ≡ Err (stranger (said a) claim)) × (output' ≡ output)
+    (a : Area) (claim : Numbers) (output : List ℕ) (r : Result ℕ Refusal) (output' : List ℕ)
+    → Trailing a claim output r output' → is_holder (said a) claim ≡ false
+    → (r ≡ Err (stranger (said a) claim)) × (output' ≡ output)
 
--- giving up a claim of this area answers 0, and one of another area is refused; the area stays as it was
+-- giving up a claim of this area answers 0, and one of another area is refused; the area stays as
+-- it was
 unfoldable pub GivingUpOfStranger : Type 0
 GivingUpOfStranger =
-    (a : Area) (claim : Numbers) (r : Result ℕ Refusal) (a' : Area) →
-    GivingUp a claim r a' → is_holder (said a) claim ≡ false →
-    (r ≡ cond (claim.area == a.number) (Ok 0) (Err (stranger (said a) claim))) × (a' ≡ a)
+    (a : Area) (claim : Numbers) (r : Result ℕ Refusal) (a' : Area)
+    → GivingUp a claim r a' → is_holder (said a) claim ≡ false
+    → (r ≡ cond (claim.area == a.number) (Ok 0) (Err (stranger (said a) claim))) × (a' ≡ a)

@@ -1,8 +1,10 @@
-//! The work area: one comparison at a time, with the pairs that it has listed and how many of them are examined.
+//! The work area: one comparison at a time, with the pairs that it has listed and how many of them
+//! are examined.
+ghost use Rattle.refusal.specs.Order.{Refuses};
 ghost use Rattle.std.specs.Prelude.{◌≡◌, false, ◌==◌};
 ghost use Rattle.compare.specs.Beginning.{«kept_from»};
 ghost use Rattle.compare.specs.Concluding.{claim_refusal};
-ghost use Rattle.compare.specs.Refusals.{Refuses, phase_refuses, holder_refusal};
+ghost use Rattle.compare.specs.Refusals.{phase_refuses, holder_refusal};
 ghost use Rattle.compare.specs.Schemas.{begun_by};
 ghost use Rattle.schema.specs.Meaning.{tables_of};
 ghost use Rattle.compare.specs.Work.{said, free};
@@ -17,7 +19,8 @@ use refusal::fault::{Fault, Refusal};
 use schema::tested::Tested;
 
 /// A work area. What is said of it says all: nothing stays in it of an earlier comparison.
-// No model whose value is what is said: a refusal leaves the whole area as found, which contracts say of the area itself, so both would be written.
+// No model whose value is what is said: a refusal leaves the whole area as found, which contracts
+// say of the area itself, so both would be written.
 #[derive(Drop)]
 pub struct Area {
     pub(crate) number: u32,
@@ -32,7 +35,8 @@ pub struct Area {
 pub const LAST_SERIAL: u32 = u32::MAX;
 
 /// A free area with that number.
-// No method of the type, nor is any other call that only our own crates may make: callers get the type with its methods.
+// No method of the type, nor is any other call that only our own crates may make: callers get the
+// type with its methods.
 pub fn free_area(number: u32) -> Area
     ensures { said result ≡ free number 0 }
 {
@@ -75,7 +79,9 @@ impl Area {
         second: &Tested<D>,
         event: Event,
     ) -> Result<(), Refusal>
-        ensures { Refuses (kept_from (said self.now) (tables_of first.now) (tables_of second.now) event) result }
+        ensures { Refuses
+            (kept_from (said self.now) (tables_of first.now) (tables_of second.now) event)
+            result }
     {
         if first.symbols() != second.symbols() {
             return Err(refusal(self, Fault::Symbols));
@@ -130,7 +136,8 @@ impl Area {
         self.permits(Event::Hold)
     }
 
-    /// Refuses what is refused of the claim with these numbers: `foreign`, `ousted`, or what the phase refuses.
+    /// Refuses what is refused of the claim with these numbers: `foreign`, `ousted`, or what the
+    /// phase refuses.
     pub(crate) fn permits_claim(&self, claim: Numbers, event: Event) -> Result<(), Refusal>
         ensures { Refuses (claim_refusal (said self.now) claim event) result }
     {

@@ -29,8 +29,9 @@ fn begin<D: Domain>(
     Ok(area.claim())
 }
 
-/// Takes a free area for a comparison of two schemas: (0, 0) is listed, or, where the first schema accepts nothing, the area is ready
-/// with included. Or `size`, `state`, `row`, `domain`, `symbols`, `busy` or `worn`.
+/// Takes a free area for a comparison of two schemas: (0, 0) is listed, or, where the first schema
+/// accepts nothing, the area is ready with included. Or `size`, `state`, `row`, `domain`,
+/// `symbols`, `busy` or `worn`.
 #[tactic(auto, using(crate::proofs::Laws::take_laws))]
 pub fn take<D: Domain>(
     area: &mut Area,
@@ -44,7 +45,8 @@ pub fn take<D: Domain>(
     begin(area, first, second, Event::Take)
 }
 
-/// Takes an area in whatever phase it is. A claim that held it is ousted. Refusals as for `take`, but for `busy`.
+/// Takes an area in whatever phase it is. A claim that held it is ousted. Refusals as for `take`,
+/// but for `busy`.
 #[tactic(auto, using(crate::proofs::Laws::oust_laws))]
 pub fn oust<D: Domain>(
     area: &mut Area,

@@ -9,7 +9,8 @@ use crate::event::{Decision, Event, decide};
 use crate::phase::{Kind, Phase};
 use refusal::fault::{Fault, Refusal};
 
-/// What a comparison came to, with the count of pairs examined; apart comes with its kind and a claim that holds the area on.
+/// What a comparison came to, with the count of pairs examined; apart comes with its kind and a
+/// claim that holds the area on.
 pub enum Concluded {
     Included(usize),
     Apart(Kind, usize, ApartClaim),
@@ -42,7 +43,8 @@ pub fn conclude(area: &mut Area, claim: Claim) -> Result<Concluded, (Refusal, Cl
     }
 }
 
-/// Gives a claim of either kind up. The holder's frees the area and answers 1, an ousted one's only answers 0. Or `foreign`, with the claim.
+/// Gives a claim of either kind up. The holder's frees the area and answers 1, an ousted one's only
+/// answers 0. Or `foreign`, with the claim.
 // A number, as docs/area.md has it: 1 where this freed the area, and 0 where it did not.
 #[tactic(auto, using(crate::proofs::Laws::give_up_laws))]
 pub fn give_up<S>(area: &mut Area, claim: Lease<S>) -> Result<u32, (Refusal, Lease<S>)>

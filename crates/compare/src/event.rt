@@ -5,8 +5,8 @@ ghost use Rattle.compare.specs.Phases.{decided};
 use crate::phase::{Kind, Phase, Verdict};
 use refusal::fault::Fault;
 
-/// What is asked of an area: take and oust by anyone, giving up with any claim of the area, and the rest by the holder, who is asked for
-/// first of all.
+/// What is asked of an area: take and oust by anyone, giving up with any claim of the area, and the
+/// rest by the holder, who is asked for first of all.
 #[derive(Clone, Copy, Debug, PartialEq, Eq)]
 pub enum Event {
     Take,

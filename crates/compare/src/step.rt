@@ -1,12 +1,13 @@
 //! Examining the listed pairs, one after the other.
-ghost use Rattle.std.specs.Prelude.{◌≡◌, ℕ, ◌<◌, ◌≤◌, length, if◌then◌else◌};
+ghost use Rattle.refusal.specs.Order.{Refuses};
+ghost use Rattle.std.specs.Prelude.{◌≡◌, ℕ, ◌<◌, length, if◌then◌else◌};
 ghost use Rattle.schema.specs.Meaning.{tables_of, symbols_of};
 ghost use Rattle.schema.specs.Tables.{tables, sets};
 ghost use Rattle.bits.specs.Bits.{bit};
 ghost use Rattle.compare.specs.Examining.{next_of, nexts_of, GoesOnIn, TurnIn, SteppedIn};
 ghost use Rattle.compare.specs.Laws.{StepLaws};
 ghost use Rattle.compare.specs.Listing.{entries_of};
-ghost use Rattle.compare.specs.Refusals.{Refuses, same_counts, held_kept_from};
+ghost use Rattle.compare.specs.Refusals.{same_counts, held_kept_from};
 ghost use Rattle.compare.specs.Schemas.{StatePair, MarksLive, Noted, Inside};
 ghost use Rattle.compare.specs.Stepping.{Stepping, step_kept_from, is_running};
 ghost use Rattle.compare.specs.Work.{said};
@@ -23,7 +24,8 @@ use refusal::fault::{Fault, Refusal};
 use schema::live::ALL_SYMBOLS;
 use schema::tables::Schema;
 use schema::tested::Tested;
-use search::pairs::{ROW_PAIRS, RowPair};
+use search::pairs::RowPair;
+use search::slots::RowSlots;
 
 /// The most pairs that a step may ask for: as many as there are.
 pub const MOST_STEPS: u32 = PLACES as u32;
@@ -37,9 +39,12 @@ struct Leading {
 }
 
 impl Leading {
-    /// The pair that it leads to under a symbol: that of the next states, where the symbol is live and both are there.
+    /// The pair that it leads to under a symbol: that of the next states, where the symbol is live
+    /// and both are there.
     fn next<D: Domain>(self, compared: &Compared<D>, symbol: u8) -> Option<Listed>
-        ensures { result ≡ next_of D.Domain.holds compared.now self.pair self.place (bit self.symbols symbol) symbol }
+        ensures { result ≡
+            next_of D.Domain.holds compared.now self.pair self.place
+            (bit self.symbols symbol) symbol }
     {
         if !has_member(self.symbols, symbol) {
             return None;
@@ -72,7 +77,8 @@ impl Leading {
 }
 
 impl Area {
-    /// Lists what an unbroken pair leads to; the pair is at a place of the list. The verdict stands where no pair is left behind it.
+    /// Lists what an unbroken pair leads to; the pair is at a place of the list. The verdict stands
+    /// where no pair is left behind it.
     fn go_on<D: Domain>(&mut self, compared: &Compared<D>, pair: Listed, place: u16)
         ensures { Noted compared.now (said self.old) → MarksLive D.Domain.holds compared.now →
             StatePair compared.now pair.first pair.second → place < length (entries_of self.old.pairs) →
@@ -94,17 +100,17 @@ impl Area {
         };
     }
 
-    /// Examines the next pair of the list; where none is left, the area is ready with included. ROW_PAIRS slots are lent.
-    fn examine<D: Domain>(&mut self, compared: &Compared<D>, scratch: &mut [RowPair])
+    /// Examines the next pair of the list; where none is left, the area is ready with included.
+    fn examine<D: Domain>(&mut self, compared: &Compared<D>, slots: &mut RowSlots)
         ensures { Noted compared.now (said self.old) → MarksLive D.Domain.holds compared.now →
-            ROW_PAIRS ≤ length scratch.old → TurnIn D.Domain.holds compared.now (said self.old) (said self.new) }
+            TurnIn D.Domain.holds compared.now (said self.old) (said self.new) }
     {
         let Some(pair) = self.pairs.entry(self.examined as usize) else {
             self.phase = Phase::Ready(Verdict::Included);
             return;
         };
         let place = self.examined;
-        if let Some(kind) = compared.broken(pair.first, pair.second, scratch) {
+        if let Some(kind) = compared.broken(pair.first, pair.second, slots) {
             self.phase = Phase::Ready(Verdict::Apart(kind));
         } else {
             self.go_on(compared, pair, place);
@@ -112,56 +118,52 @@ impl Area {
         self.examined = place + 1;
     }
 
-    /// Examines up to so many pairs, until the verdict stands. ROW_PAIRS slots are lent.
-    fn examine_up_to<D: Domain>(
-        &mut self,
-        compared: &Compared<D>,
-        steps: u32,
-        scratch: &mut [RowPair],
-    )
+    /// Examines up to so many pairs, until the verdict stands.
+    fn examine_up_to<D: Domain>(&mut self, compared: &Compared<D>, steps: u32, slots: &mut RowSlots)
         ensures { Noted compared.now (said self.old) → MarksLive D.Domain.holds compared.now →
-            ROW_PAIRS ≤ length scratch.old →
             SteppedIn D.Domain.holds compared.now steps (said self.old) (said self.new) }
     {
         for _ in 0..steps {
             if let Decision::Examine = decide(self.phase, Event::Step) {
-                self.examine(compared, scratch);
+                self.examine(compared, slots);
             } else {
                 return;
             }
         }
     }
 
-    /// Refuses what keeps two schemas from a step: `symbols`, `foreign`, `ousted`, `schemas`, `steps` or `scratch`.
-    fn permits_step<D>(
+    /// The row pairs for a step, or what keeps two schemas from it: `symbols`, `foreign`, `ousted`,
+    /// `schemas`, `steps` or `scratch`.
+    fn permits_step<'a, D>(
         &self,
         first: &Tested<D>,
         second: &Tested<D>,
         claim: Numbers,
         steps: u32,
-        slots: usize,
-    ) -> Result<(), Refusal>
+        scratch: &'a mut [RowPair],
+    ) -> Result<RowSlots<'a>, Refusal>
         ensures { Refuses
-            (step_kept_from (said self.now) (tables_of first.now) (tables_of second.now) claim steps slots) result }
+            (step_kept_from (said self.now) (tables_of first.now) (tables_of second.now) claim steps (length scratch.old))
+            result }
     {
         self.permits_held(first, second, claim)?;
         if steps == 0 || steps > MOST_STEPS {
             return Err(refusal(self, Fault::Steps));
         }
-        if slots < ROW_PAIRS {
-            return Err(Fault::Scratch.at(ROW_PAIRS));
-        }
-        Ok(())
+        RowSlots::new(scratch)
     }
 
-    /// Refuses what keeps two schemas from what the holder of the claim asks: `symbols`, `foreign`, `ousted` or `schemas`.
+    /// Refuses what keeps two schemas from what the holder of the claim asks: `symbols`, `foreign`,
+    /// `ousted` or `schemas`.
     pub(crate) fn permits_held<D>(
         &self,
         first: &Tested<D>,
         second: &Tested<D>,
         claim: Numbers,
     ) -> Result<(), Refusal>
-        ensures { Refuses (held_kept_from (said self.now) (tables_of first.now) (tables_of second.now) claim) result }
+        ensures { Refuses
+            (held_kept_from (said self.now) (tables_of first.now) (tables_of second.now) claim)
+            result }
     {
         if first.symbols() != second.symbols() {
             return Err(refusal(self, Fault::Symbols));
@@ -175,7 +177,9 @@ impl Area {
 
     /// Whether the noted counts are those of the two schemas.
     fn has_noted<D>(&self, first: &Tested<D>, second: &Tested<D>) -> bool
-        ensures { result ≡ same_counts (said self.now) (tables_of first.now) (tables_of second.now) }
+        ensures {
+            result ≡ same_counts (said self.now) (tables_of first.now) (tables_of second.now)
+        }
     {
         let same_symbols = self.symbols as usize == first.symbols();
         let same_firsts = self.pairs.firsts() as usize == first.states();
@@ -184,7 +188,8 @@ impl Area {
     }
 
     /// 1 where the verdict stands, and 0 while the area runs.
-    // Two numbers, as docs/area.md has it: the pairs examined, and 1 where the verdict stands or else 0.
+    // Two numbers, as docs/area.md has it: the pairs examined, and 1 where the verdict stands or
+    // else 0.
     fn mark(&self) -> u32
         ensures { result ≡ (if is_running self.now.phase then 0 else 1) }
     {
@@ -209,9 +214,9 @@ pub fn step<D: Domain>(
     ensures laws { StepLaws }
 {
     let (first, second) = Tested::both(first, second)?;
-    area.permits_step(&first, &second, claim, steps, scratch.len())?;
+    let mut slots = area.permits_step(&first, &second, claim, steps, scratch)?;
     let before = area.examined;
-    area.examine_up_to(&Compared::of(&first, &second), steps, scratch);
+    area.examine_up_to(&Compared::of(&first, &second), steps, &mut slots);
     let count = u32::from(area.examined.saturating_sub(before));
     Ok((count, area.mark()))
 }

@@ -25,7 +25,9 @@ pub fn led_to(pairs: &Pairs, index: usize) -> Option<Listed>
 /// How many symbols the trail of a listed pair has.
 fn trail_length(pairs: &Pairs, index: usize) -> usize
     ensures most { result ≤ index }
-    ensures count { (w : List ℕ) → Trail (entries_of pairs.now) index w → result ≡ length w }
+    ensures count {
+        (w : List ℕ) → Trail (entries_of pairs.now) index w → result ≡ length w
+    }
 {
     match led_to(pairs, index) {
         Some(pair) => trail_length(pairs, pair.parent as usize) + 1,
@@ -33,7 +35,8 @@ fn trail_length(pairs: &Pairs, index: usize) -> usize
     }
 }
 
-/// Writes the trail of a listed pair at the output's front, where it has room, and gives the place after it.
+/// Writes the trail of a listed pair at the output's front, where it has room, and gives the place
+/// after it.
 fn write_trail(pairs: &Pairs, index: usize, output: &mut [u8]) -> usize
     ensures most { result ≤ index }
     ensures written { TrailWritten (entries_of pairs.now) index output.old result output.new }

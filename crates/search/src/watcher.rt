@@ -1,10 +1,12 @@
 //! Watchers: each reads a sequence symbol by symbol, and says whether it wants what it has read.
 ghost use Rattle.std.specs.Prelude.{◌≡◌, ℕ, ◌≤◌};
+ghost use Rattle.search.specs.declared.watcher.TheConstants.{WATCHER_STATES};
 ghost use Rattle.search.specs.Watching.{Watching, WatcherStatesBelow};
 
 use schema::faults::STATE_ROWS;
 
-/// How many states a watcher has at most: one for each row that a state of a schema can have, and one more.
+/// How many states a watcher has at most: one for each row that a state of a schema can have, and
+/// one more.
 pub const WATCHER_STATES: u8 = STATE_ROWS + 1;
 
 /// A small machine over symbols, with states below WATCHER_STATES.
@@ -31,5 +33,5 @@ pub trait Watcher {
     ghost low: { (w : Self) → WatcherStatesBelow states (watching w) };
 
     // they are WATCHER_STATES at most
-    ghost few: { states ≤ 17 };
+    ghost few: { states ≤ WATCHER_STATES };
 }

@@ -73,7 +73,8 @@ impl Pairs {
         row < STATES && has_member(self.bits[row], second)
     }
 
-    /// Whether the pair can stand behind the others: its states lie inside the counts, and the pair that led to it is listed, or none is yet.
+    /// Whether the pair can stand behind the others: its states lie inside the counts, and the pair
+    /// that led to it is listed, or none is yet.
     fn can_stand(&self, pair: Listed) -> bool
         ensures { result ≡ fits self.now.firsts self.now.seconds self.now.length pair }
     {
@@ -82,7 +83,8 @@ impl Pairs {
             && (self.length == 0 || (pair.parent as usize) < self.length)
     }
 
-    /// Puts the pair behind the others, unless its two states are listed already or it cannot stand there.
+    /// Puts the pair behind the others, unless its two states are listed already or it cannot stand
+    /// there.
     pub fn list(&mut self, pair: Listed)
         ensures entries { entries_of self.new ≡
             after_listing self.old.firsts self.old.seconds (entries_of self.old) pair }

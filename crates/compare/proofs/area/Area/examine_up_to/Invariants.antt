@@ -1,7 +1,5 @@
 -- The turns so far, each of a running area. Assumes nothing.
-use Rattle.std.proofs.Common.{◌≤◌, length}
 use Rattle.schema.specs.Meaning.{meaning}
-use Rattle.search.specs.declared.pairs.TheConstants.{ROW_PAIRS}
 use Rattle.compare.specs.Schemas.{MarksLive, Noted}
 use Rattle.compare.specs.Stepping.{Turns}
 use Rattle.compare.specs.Work.{said}
@@ -9,5 +7,5 @@ use Rattle.compare.proofs.area.Area.examine_up_to.Given as goal
 
 abbrev pub invariant-loop : goal.invariant-loop
 invariant-loop g l =
-    Noted l.compared (said l.initial.self) → MarksLive g.D.Domain.holds l.compared → ROW_PAIRS ≤ length l.initial.scratch
+    Noted l.compared (said l.initial.self) → MarksLive g.D.Domain.holds l.compared
     → Turns (meaning g.D.Domain.holds l.compared.first.now) (meaning g.D.Domain.holds l.compared.second.now) l.counter (said l.initial.self) (said l.self) × Noted l.compared (said l.self)

@@ -7,7 +7,7 @@ use Rattle.compare.proofs.Gaps.{gap_none}
 use Rattle.compare.proofs.compared.Compared.broken.Goals as goal
 
 pub returns-clause-answer : goal.returns-clause-answer
-returns-clause-answer g c = λ there mask room.
+returns-clause-answer g c = λ there mask.
     let A = meaning g.D.Domain.holds c.args.self.now.first.now in
     let B = meaning g.D.Domain.holds c.args.self.now.second.now in
     record {
@@ -15,6 +15,6 @@ returns-clause-answer g c = λ there mask room.
       contents = λ w live.
           ⊎_elim
           (λ may. may)
-          (λ refused. absurd (both_ways c.is_content_broken.result c.if-is_content_broken.false ((c.is_content_broken.ensures there mask room).1 (w, live, refused))))
+          (λ refused. absurd (both_ways c.is_content_broken.result c.if-is_content_broken.false ((c.is_content_broken.ensures there mask).1 (w, live, refused))))
           (cases_Bool (allowed B c.args.q w));
     }

@@ -1,7 +1,7 @@
 -- The mask of the row has one member more. Assumes nothing.
 use Rattle.std.proofs.Common.{arith}
-use Rattle.search.proofs.Listing.{listed_more}
-use Rattle.search.proofs.listed.Listed.add.Goals as goal
+use Rattle.search.proofs.Visits.{listed_more}
+use Rattle.search.proofs.visited.Visited.add.Goals as goal
 
 pub returns-then-row-lt-MASKS : goal.returns-then-row-lt-MASKS
 returns-then-row-lt-MASKS c = λ inside low.

@@ -2,8 +2,8 @@
 use Rattle.std.proofs.Common.{◌≡◌, ◌≤◌, length, refl, ap, ◌∙◌, arith}
 use Rattle.std.specs.Option.{unwrap_or}
 use Rattle.std.proofs.lemmas.Option.{unwrap_or-slice_get}
-use Rattle.document.proofs.Words.{slots_long, filled_more, front_inside, front_padded, front_is}
-use Rattle.document.proofs.word.Word.read.Goals as goal
+use Rattle.search.proofs.Filling.{slots_long, filled_more, front_inside, front_padded, front_is}
+use Rattle.search.proofs.word.Word.read.Goals as goal
 
 pub loop-position-init : goal.loop-position-init
 loop-position-init g c = λ w spells few. refl

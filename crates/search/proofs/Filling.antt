@@ -3,7 +3,7 @@ use Rattle.std.proofs.Common.{◌≡◌, ℕ, ◌+◌, ◌-◌, ◌<◌, ◌≤�
 use Rattle.std.proofs.Math.ListN.{set}
 use Rattle.std.proofs.Math.Seq.{take-length}
 use Rattle.std.proofs.lemmas.List.{drop-replicate, length-replicate, take_all, take-append-le, take_more, take_more_set}
-use Rattle.document.specs.Words.{padded}
+use Rattle.search.specs.Words.{padded}
 
 -- the slots that a sequence of n symbols fills
 pub slots_long : (N n : ℕ) → n ≤ N → length (take n (replicate {A = ℕ} N 0)) ≡ n

@@ -1,4 +1,5 @@
--- The listed pairs: each is an entry, and there are no more than 16 for each state of the watcher. Assumes nothing.
+-- The listed pairs: each is an entry, and there are no more than 16 for each state of the watcher.
+-- Assumes nothing.
 use Rattle.std.proofs.Common.{◌≡◌, ℕ, ◌+◌, ◌*◌, ◌/◌, ◌%◌, ◌<◌, ◌≤◌, Bool, true, false, ◌&&◌, ◌||◌, eqb, ltb, List, [], ◌∷◌, ◌++◌, length, get_or, set, Some, sym, refl, ap, ◌∙◌, ⊎_elim, arith}
 use Rattle.std.specs.List.{slice_get}
 use Rattle.std.proofs.lemmas.Nat.{mul-add-lt, div-mul-add, mod-mul-add}
@@ -7,9 +8,9 @@ use Rattle.std.proofs.lemmas.Bool.{and_from, and_parts, both_ways, cases_eq, eq-
 use Rattle.bits.specs.Bits.{bit}
 use Rattle.bits.specs.Below.{count_below}
 use Rattle.bits.proofs.Counting.{count_le, count_grows}
-use Rattle.search.specs.declared.listed.Listed.{Listed}
+use Rattle.search.specs.declared.visited.Visited.{Visited}
 use Rattle.search.specs.declared.pairs.RowPair.{RowPair}
-use Rattle.search.specs.Listing.{lists}
+use Rattle.search.specs.Visits.{is_visited}
 use Rattle.search.proofs.Places.{nth_kept, nth_new}
 
 -- how many numbers below n pass
@@ -25,8 +26,8 @@ unfolding passing
 passing_grows = count_grows
 
 -- the pairs of a row and one of so many states in turn: is each listed?
-abbrev cell : ℕ → Listed → ℕ → Bool
-cell states l n = lists l (n / states) (n % states)
+abbrev cell : ℕ → Visited → ℕ → Bool
+cell states l n = is_visited l (n / states) (n % states)
 
 -- the entry of a pair
 pub record EntryOf (es : List RowPair) (r s : ℕ) : Type 0 where
@@ -37,15 +38,15 @@ pub record EntryOf (es : List RowPair) (r s : ℕ) : Type 0 where
   pub watch : entry.watch ≡ s
 
 -- each listed pair is an entry's, and there are no more entries than listed pairs
-pub record Noted (states : ℕ) (l : Listed) (es : List RowPair) : Type 0 where
-  pub seen : (r s : ℕ) → lists l r s ≡ true → EntryOf es r s
+pub record Noted (states : ℕ) (l : Visited) (es : List RowPair) : Type 0 where
+  pub seen : (r s : ℕ) → is_visited l r s ≡ true → EntryOf es r s
   pub few : length es ≤ passing (16 * states) (cell states l)
 
-pub noted_few : (states : ℕ) (l : Listed) (es : List RowPair) → Noted states l es → length es ≤ 16 * states
+pub noted_few : (states : ℕ) (l : Visited) (es : List RowPair) → Noted states l es → length es ≤ 16 * states
 noted_few states l es noted = omega (arith, noted.few, passing_le (16 * states) (cell states l))
 
 -- one pair more, which was not listed
-module _ (states : ℕ) (l l' : Listed) (es : List RowPair) (p : RowPair) (noted : Noted states l es) (low : p.row < 16) (narrow : p.watch < states) (new : lists l p.row p.watch ≡ false) (listed : (r s : ℕ) → lists l' r s ≡ (lists l r s || (eqb p.row r && eqb p.watch s))) where
+module _ (states : ℕ) (l l' : Visited) (es : List RowPair) (p : RowPair) (noted : Noted states l es) (low : p.row < 16) (narrow : p.watch < states) (new : is_visited l p.row p.watch ≡ false) (listed : (r s : ℕ) → is_visited l' r s ≡ (is_visited l r s || (eqb p.row r && eqb p.watch s))) where
   abbrev its_cell : ℕ
   its_cell = p.row * states + p.watch
 
@@ -55,8 +56,8 @@ module _ (states : ℕ) (l l' : Listed) (es : List RowPair) (p : RowPair) (noted
       (at_cell l ∙ new)
       (at_cell l' ∙ listed p.row p.watch ∙ or_right _ _ (and_from _ _ (eq-eqb p.row p.row refl) (eq-eqb p.watch p.watch refl)))
     where
-      at_cell : (t : Listed) → cell states t its_cell ≡ lists t p.row p.watch
-      at_cell t = ap (λ (r : ℕ). lists t r (its_cell % states)) (div-mul-add p.row states p.watch narrow) ∙ ap (lists t p.row) (mod-mul-add p.row states p.watch narrow)
+      at_cell : (t : Visited) → cell states t its_cell ≡ is_visited t p.row p.watch
+      at_cell t = ap (λ (r : ℕ). is_visited t r (its_cell % states)) (div-mul-add p.row states p.watch narrow) ∙ ap (is_visited t p.row) (mod-mul-add p.row states p.watch narrow)
 
   -- so there was room for it
   pub room_left : length es < 16 * states
@@ -71,13 +72,13 @@ module _ (states : ℕ) (l l' : Listed) (es : List RowPair) (p : RowPair) (noted
             (λ same.
             let parts = and_parts (eqb p.row r) (eqb p.watch s) same in
             record { at = length es; entry = p; is = nth_new p es; row = eqb-true p.row r parts.0; watch = eqb-true p.watch s parts.1 })
-            (or_cases (lists l r s) _ (sym (listed r s) ∙ h));
+            (or_cases (is_visited l r s) _ (sym (listed r s) ∙ h));
         few = omega (arith, noted.few, more_cells, length_push es p);
       }
 
 -- before anything is listed
-pub nothing_noted : (states : ℕ) (l : Listed) → ((r s : ℕ) → lists l r s ≡ false) → Noted states l []
-nothing_noted states l none = record { seen = λ r s h. absurd (both_ways (lists l r s) (none r s) h); few = omega arith }
+pub nothing_noted : (states : ℕ) (l : Visited) → ((r s : ℕ) → is_visited l r s ≡ false) → Noted states l []
+nothing_noted states l none = record { seen = λ r s h. absurd (both_ways (is_visited l r s) (none r s) h); few = omega arith }
 
 -- the mask of a row has one member more
 pub listed_more : (table : List ℕ) (row watch mask : ℕ) → row < length table → watch < 64 → ((i : ℕ) → bit mask i ≡ (bit (get_or table row 0) i || (ltb watch 64 && eqb watch i))) → (r s : ℕ) → bit (get_or (set table row mask) r 0) s ≡ (bit (get_or table r 0) s || (eqb row r && eqb watch s))

@@ -1,11 +1,12 @@
 //! A short sequence of symbols, kept by itself.
 ghost use Rattle.std.specs.Prelude.{◌≡◌, ℕ, ◌≤◌, List, length, take};
-ghost use Rattle.search.specs.Pairs.{Spells};
-ghost use Rattle.document.specs.Words.{padded, front_long};
+ghost use Rattle.search.specs.Pairs.{row_links};
+ghost use Rattle.search.specs.Paths.{Spells};
+ghost use Rattle.search.specs.Words.{padded, front_long};
 
+use crate::pairs::RowPair;
+use crate::reading;
 use codec::pile::Pile;
-use search::pairs::RowPair;
-use search::reading;
 use std::marker::Model;
 
 /// A sequence of at most N symbols.
@@ -30,8 +31,10 @@ impl<const N: usize> Model for Word<N> {
 
 impl<const N: usize> Word<N> {
     /// The sequence of an entry that a search found, where it has at most N symbols.
-    pub fn read(pile: &Pile<RowPair>, index: usize) -> Word<N>
-        ensures { (w : List ℕ) → Spells pile.now.entries index w → length w ≤ N → result ≡ w }
+    pub(crate) fn read(pile: &Pile<RowPair>, index: usize) -> Word<N>
+        ensures { (w : List ℕ) → Spells row_links pile.now.entries index w →
+            length w ≤ N →
+            result ≡ w }
     {
         let count = reading::length(pile, index).min(N);
         let mut symbols = [0; N];
