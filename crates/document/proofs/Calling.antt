@@ -22,7 +22,7 @@ use Rattle.compare.specs.declared.writing.BrokenPair.{BrokenPair}
 use Rattle.compare.specs.Listing.{entries_of}
 use Rattle.compare.specs.Refusals.{other_counts, phase_refuses, short_scratch, held_kept_from}
 use Rattle.compare.specs.Trailing.{broken_index}
-use Rattle.compare.specs.Work.{Work, said}
+use Rattle.compare.specs.View.{View, view}
 use Rattle.compare.specs.Writing.{write_kept_from, BrokenOf}
 use Rattle.compare.proofs.Allowing.{fails, held_allows}
 use Rattle.document.specs.declared.level.Spot.{Spot}
@@ -50,7 +50,7 @@ pub err_none : {X E : Type 0} (o : Option X) (e y : E) → Err y ≡ ok_or o e �
 err_none (Some x) e y is = absurd (cc)
 err_none None e y is = (refl, cc)
 
-module _ (w : Work) (T U : Tables) (claim : Numbers) (slots levels : ℕ) where
+module _ (w : View) (T U : Tables) (claim : Numbers) (slots levels : ℕ) where
   -- where nothing is refused the counts are those noted, and what is lent suffices
   pub allowed_by : kept_from w T U claim slots levels ≡ None → (other_counts w T U ≡ None) × (272 ≤ slots) × (4160 ≤ levels)
   allowed_by none =
@@ -61,7 +61,7 @@ module _ (w : Work) (T U : Tables) (claim : Numbers) (slots levels : ℕ) where
       ((held_allows w T U claim held.0).1, ltb-false slots 272 (fails _ _ lent.0), ltb-false levels 4160 (fails _ _ last.0))
 
 -- the state counts noted are those of the schemas
-pub counts_of : (w : Work) (T U : Tables) → other_counts w T U ≡ None → (w.firsts ≡ T.states) × (w.seconds ≡ U.states)
+pub counts_of : (w : View) (T U : Tables) → other_counts w T U ≡ None → (w.firsts ≡ T.states) × (w.seconds ≡ U.states)
 counts_of w T U none =
     let all = not-false _ (fails _ _ none) in
     let others = and_parts _ _ (and_parts _ _ all).1 in
@@ -69,25 +69,25 @@ counts_of w T U none =
 
 module _ (A A' B : Automaton) (a : Area) (b : BrokenPair) (same : A' ≡ A) (of : BrokenOf a (Some b)) where
   -- the document that the climb finds is the area's
-  pub found_in : (way : List Listed) (t : Tree) → DocumentOf A' B b.kind (entries_of b.pairs.now) b.index way t → DocumentIn A B (said a) way t
+  pub found_in : (way : List Listed) (t : Tree) → DocumentOf A' B b.kind (entries_of b.pairs.now) b.index way t → DocumentIn A B (view a) way t
   found_in way t d =
       let pairs = subst (λ (p : Pairs). DocumentOf A' B b.kind (entries_of p) b.index way t) of.1 d in
       let index = subst (λ (i : ℕ). DocumentOf A' B b.kind (entries_of a.pairs) i way t) of.2 pairs in
-      (b.kind, of.0, subst (λ (X : Automaton). DocumentOf X B b.kind (entries_of a.pairs) (broken_index (said a)) way t) same index)
+      (b.kind, of.0, subst (λ (X : Automaton). DocumentOf X B b.kind (entries_of a.pairs) (broken_index (view a)) way t) same index)
 
   -- and where it finds none the area has none
-  pub none_in : ((way : List Listed) (t : Tree) → DocumentOf A' B b.kind (entries_of b.pairs.now) b.index way t → ⊥) → NoDocument A B (said a)
+  pub none_in : ((way : List Listed) (t : Tree) → DocumentOf A' B b.kind (entries_of b.pairs.now) b.index way t → ⊥) → NoDocument A B (view a)
   none_in none way t (k, phase, d) =
       let kinds : k ≡ b.kind = cc (phase, of.0) in
-      let kind = subst (λ (x : Kind). DocumentOf A B x (entries_of a.pairs) (broken_index (said a)) way t) kinds d in
+      let kind = subst (λ (x : Kind). DocumentOf A B x (entries_of a.pairs) (broken_index (view a)) way t) kinds d in
       let index = subst (λ (i : ℕ). DocumentOf A B b.kind (entries_of a.pairs) i way t) (sym of.2) kind in
       let pairs = subst (λ (p : Pairs). DocumentOf A B b.kind (entries_of p) b.index way t) (sym of.1) index in
       none way t (subst (λ (X : Automaton). DocumentOf X B b.kind (entries_of b.pairs.now) b.index way t) (sym same) pairs)
 
 -- with the samples, the second schema and the broken pair a document can be told
-pub ready_of : {D : Type 0} (holds : D → ℕ → Bool) (first second : Bor (Tested D)) (s : Kept D) (a : Area) (b : BrokenPair) → BrokenOf a (Some b) → s.tested.now ≡ first.now → other_counts (said a) (tables first.now.measured.schema) (tables second.now.measured.schema) ≡ None → HasSamples holds s → Ready holds (record { samples = s; second = second; pairs = b.pairs; kind = b.kind })
+pub ready_of : {D : Type 0} (holds : D → ℕ → Bool) (first second : Bor (Tested D)) (s : Kept D) (a : Area) (b : BrokenPair) → BrokenOf a (Some b) → s.tested.now ≡ first.now → other_counts (view a) (tables first.now.measured.schema) (tables second.now.measured.schema) ≡ None → HasSamples holds s → Ready holds (record { samples = s; second = second; pairs = b.pairs; kind = b.kind })
 ready_of {D} holds first second s a b of over none has =
-    let counts = counts_of (said a) (tables first.now.measured.schema) (tables second.now.measured.schema) none in
+    let counts = counts_of (view a) (tables first.now.measured.schema) (tables second.now.measured.schema) none in
     record {
       samples = has;
       firsts = ap (λ (p : Pairs). p.firsts) of.1 ∙ counts.0 ∙ sym (ap (λ (t : Tested D). t.measured.schema.states) over);

@@ -11,7 +11,7 @@ use Rattle.compare.specs.declared.pairs.Listed.{Listed}
 use Rattle.compare.specs.declared.phase.Kind.{Kind}
 use Rattle.compare.specs.declared.phase.Kind.TheVariants.{Value, Content}
 use Rattle.compare.specs.Breaking.{Broken}
-use Rattle.compare.specs.Growing.{Reached}
+use Rattle.compare.specs.Invariant.{Reached}
 use Rattle.compare.specs.Pairs.{start}
 use Rattle.document.specs.Samples.{SampleSequence, Samples}
 

@@ -2,7 +2,7 @@
 ghost use Rattle.std.specs.Prelude.{◌≡◌, ◌≤◌, None, length};
 ghost use Rattle.schema.specs.Tables.{tables, sets, automaton_of};
 ghost use Rattle.compare.specs.Refusals.{Refuses, other_counts};
-ghost use Rattle.compare.specs.Work.{said};
+ghost use Rattle.compare.specs.View.{view};
 ghost use Rattle.document.specs.Documents.{TellsApart, OneDocument, HasDocument};
 ghost use Rattle.document.specs.Writing.{Documenting, DocumentAnswer, OneDocumenting, DocumentOfStranger, kept_from};
 
@@ -35,7 +35,7 @@ fn permits<D>(
     slots: usize,
     levels: usize,
 ) -> Result<(), Refusal>
-    ensures { Refuses (kept_from (said area.now) (tables first.now.measured.schema) (tables second.now.measured.schema) claim slots levels) result }
+    ensures { Refuses (kept_from (view area.now) (tables first.now.measured.schema) (tables second.now.measured.schema) claim slots levels) result }
 {
     permits_write(area, first, second, claim, slots)?;
     if levels < LEVELS {
@@ -54,7 +54,7 @@ fn write_document<D: Domain>(
     levels: &mut [Level<Spot>],
     output: &mut [u8],
 ) -> Result<usize, Refusal>
-    ensures { other_counts (said area.now) (tables first.now.measured.schema) (tables second.now.measured.schema) ≡ None → 272 ≤ length scratch.old → 4160 ≤ length levels.old → DocumentAnswer (automaton_of D.Domain.holds first.now.measured.schema) (automaton_of D.Domain.holds second.now.measured.schema) (said area.now) output.old result output.new }
+    ensures { other_counts (view area.now) (tables first.now.measured.schema) (tables second.now.measured.schema) ≡ None → 272 ≤ length scratch.old → 4160 ≤ length levels.old → DocumentAnswer (automaton_of D.Domain.holds first.now.measured.schema) (automaton_of D.Domain.holds second.now.measured.schema) (view area.now) output.old result output.new }
 {
     let none = refusal(area, Fault::Schemas);
     let broken = broken_pair(area).ok_or(none)?;

@@ -17,7 +17,7 @@ use Rattle.compare.specs.declared.phase.Verdict.{Verdict}
 use Rattle.compare.specs.declared.phase.Verdict.TheVariants as verdict
 use Rattle.compare.specs.Concluding.{claim_refusal}
 use Rattle.compare.specs.Stepping.{Turn, Turns, Stepped, going_on, with_nexts, is_running}
-use Rattle.compare.specs.Work.{Work, said, is_free, begun}
+use Rattle.compare.specs.View.{View, view, is_free, begun}
 use Rattle.compare.proofs.Nexts.{with_nexts_longer}
 use Rattle.compare.proofs.Turning.{counts_stay}
 use Rattle.compare.proofs.Views.{few_pairs}
@@ -34,7 +34,7 @@ is_apart p = false
 
 -- so many steps have been granted: it has not turned apart, the two counts are noted, and while it
 -- runs as many pairs are examined, and one more is listed
-record Counted (n m g : ℕ) (w : Work) : Type 0 where
+record Counted (n m g : ℕ) (w : View) : Type 0 where
   together : (k : Kind) → w.phase ≡ phase.Apart k → ⊥
   firsts : w.firsts ≡ n
   seconds : w.seconds ≡ m
@@ -43,7 +43,7 @@ record Counted (n m g : ℕ) (w : Work) : Type 0 where
 module _ (n m : ℕ) where
   -- a verdict stands
   ready :
-      (g : ℕ) (w : Work) (v : Verdict) → w.phase ≡ phase.Ready v → w.firsts ≡ n → w.seconds ≡ m →
+      (g : ℕ) (w : View) (v : Verdict) → w.phase ≡ phase.Ready v → w.firsts ≡ n → w.seconds ≡ m →
       Counted n m g w
   ready g w v is firsts seconds =
       record {
@@ -55,7 +55,7 @@ module _ (n m : ℕ) where
 
   -- one pair more is examined, and these are listed
   goes_on :
-      (g : ℕ) (w : Work) (es : List Listed) → w.phase ≡ going_on (g + 1) es → w.pairs ≡ es →
+      (g : ℕ) (w : View) (es : List Listed) → w.phase ≡ going_on (g + 1) es → w.pairs ≡ es →
       w.examined ≡ g + 1 → g < length es → w.firsts ≡ n → w.seconds ≡ m → Counted n m (g + 1) w
   goes_on g w es is listed more low firsts seconds = by (eqb (g + 1) (length es)) refl is
     where
@@ -73,30 +73,30 @@ module _ (n m : ℕ) where
 
   module _ (A B : Automaton) where
     turn_counted :
-        (g : ℕ) (w w' : Work) → w.phase ≡ phase.Running → Turn A B w w' → Counted n m g w →
+        (g : ℕ) (w w' : View) → w.phase ≡ phase.Running → Turn A B w w' → Counted n m g w →
         Counted n m (g + 1) w'
     turn_counted g w w' runs turn c =
         let stay = counts_stay A B w w' turn in
         let firsts : w'.firsts ≡ n = stay.1 ∙ c.firsts in
         let seconds : w'.seconds ≡ m = stay.2 ∙ c.seconds in
         ⊎_elim
-        (λ none. ready (g + 1) w' verdict.Included (ap (λ (x : Work). x.phase) none.1) firsts seconds)
+        (λ none. ready (g + 1) w' verdict.Included (ap (λ (x : View). x.phase) none.1) firsts seconds)
         (λ one.
         ⊎_elim
-        (λ broken. ready (g + 1) w' (verdict.Apart broken.0) (ap (λ (x : Work). x.phase) broken.2) firsts seconds)
+        (λ broken. ready (g + 1) w' (verdict.Apart broken.0) (ap (λ (x : View). x.phase) broken.2) firsts seconds)
         (λ on.
         let es = with_nexts A B on.1.0 one.pair.first one.pair.second w.examined w.symbols w.pairs in
         let here : w.examined ≡ g = (c.runs runs).0 in
         goes_on g w' es
-        (ap (λ (x : Work). x.phase) on.1.2 ∙ ap (λ (k : ℕ). going_on (k + 1) es) here)
-        (ap (λ (x : Work). x.pairs) on.1.2)
-        (omega (arith, ap (λ (x : Work). x.examined) on.1.2, here))
+        (ap (λ (x : View). x.phase) on.1.2 ∙ ap (λ (k : ℕ). going_on (k + 1) es) here)
+        (ap (λ (x : View). x.pairs) on.1.2)
+        (omega (arith, ap (λ (x : View). x.examined) on.1.2, here))
         (omega (arith, here, slice_get_within w.pairs w.examined one.pair one.at, with_nexts_longer A B on.1.0 one.pair.first one.pair.second w.examined w.symbols w.pairs))
         firsts seconds)
         one.outcome)
         turn
 
-    turns_counted : (k g : ℕ) (w w' : Work) → Turns A B k w w' → Counted n m g w → Counted n m (g + k) w'
+    turns_counted : (k g : ℕ) (w w' : View) → Turns A B k w w' → Counted n m g w → Counted n m (g + k) w'
     turns_counted zero g w w' turns c = let none : g ≡ g + zero = omega arith in subst (λ (i : ℕ). Counted n m i w') none (subst (Counted n m g) (sym turns) c)
     turns_counted (suc k) g w w' turns c =
         let last : (g + k) + 1 ≡ g + suc k = omega arith in
@@ -104,7 +104,7 @@ module _ (n m : ℕ) where
 
     -- a step examines as many as it was asked for, where the area still runs
     stepped_counted :
-        (k g : ℕ) (w w' : Work) → Stepped A B k w w' → Counted n m g w → Counted n m (g + k) w'
+        (k g : ℕ) (w w' : View) → Stepped A B k w w' → Counted n m g w → Counted n m (g + k) w'
     stepped_counted k g w w' s c =
         let after = turns_counted s.taken g w w' s.turns c in
         record {
@@ -122,35 +122,35 @@ inclusion_concludes d is = absurd (false≢true is)
 module _ (n : Numbers) (i j : ℕ) where
   -- where the steps granted reach the product of the counts, a verdict stands
   enough :
-      (g : ℕ) (a : Area) → Held n (said a) → Counted i j g (said a) → i * j ≤ g →
-      claim_refusal (said a) n Conclude ≡ None
+      (g : ℕ) (a : Area) → Held n (view a) → Counted i j g (view a) → i * j ≤ g →
+      claim_refusal (view a) n Conclude ≡ None
   enough g a held c reached = by a.phase refl
     where
-      by : (p : Phase) → a.phase ≡ p → claim_refusal (said a) n Conclude ≡ None
+      by : (p : Phase) → a.phase ≡ p → claim_refusal (view a) n Conclude ≡ None
       by phase.Free is = absurd (both_ways (is_free a.phase) held.busy (ap is_free is))
       by phase.Running is =
           let runs = c.runs is in
           absurd (omega (arith, runs.0, runs.1, few_pairs a.pairs, reached, ap₂ (λ (x : ℕ) (y : ℕ). x * y) c.firsts c.seconds))
-      by (phase.Ready v) is = conclusion_permitted (said a) n v held is
+      by (phase.Ready v) is = conclusion_permitted (view a) n v held is
       by (phase.Apart k) is = absurd (c.together k is)
 
   -- the area is held, after so many steps granted; and it is neither ousted nor given up by the
   -- calls, which grant enough
   record Course (cs : List Call) (g : ℕ) (a : Area) : Type 0 where
-    held : Held n (said a)
-    counted : Counted i j g (said a)
+    held : Held n (view a)
+    counted : Counted i j g (view a)
     unousted : list_any is_ousting cs ≡ false
     kept : some_own n is_giving_up cs ≡ false
     reached : i * j ≤ g + granted n cs
 
   -- its conclude is among the calls, or would be accepted
   abbrev Timely : List Call → Area → Type 0
-  Timely cs now = (some_own n is_conclusion cs ≡ true) ⊎ (claim_refusal (said now) n Conclude ≡ None)
+  Timely cs now = (some_own n is_conclusion cs ≡ true) ⊎ (claim_refusal (view now) n Conclude ≡ None)
 
   -- what one call more, before the others, comes to
   module _ (d : Call) (cs : List Call) (g : ℕ) (a m now : Area) (c : Course (d ∷ cs) g a) (then : (g' : ℕ) → Course cs g' m → Timely cs now) where
     later :
-        (g' : ℕ) → g' ≡ g + granted_by n d → Held n (said m) → Counted i j g' (said m) →
+        (g' : ℕ) → g' ≡ g + granted_by n d → Held n (view m) → Counted i j g' (view m) →
         Timely (d ∷ cs) now
     later g' more held counted =
         let course : Course cs g' m = record {
@@ -166,34 +166,34 @@ module _ (n : Numbers) (i j : ℕ) where
     concluded_now its is = inl (or_left _ _ (and_from _ _ its is))
 
     one_call : Effect d a m → Timely (d ∷ cs) now
-    one_call (keeps k) = later g (omega (arith, k.grants n)) (subst (λ (x : Area). Held n (said x)) (sym k.same) c.held) (subst (λ (x : Area). Counted i j g (said x)) (sym k.same) c.counted)
+    one_call (keeps k) = later g (omega (arith, k.grants n)) (subst (λ (x : Area). Held n (view x)) (sym k.same) c.held) (subst (λ (x : Area). Counted i j g (view x)) (sym k.same) c.counted)
     one_call (begins b) = absurd (⊎_elim (both_ways (is_ousting d) (or_parts (is_ousting d) _ c.unousted).0) (both_ways (is_free a.phase) c.held.busy) b.how)
     one_call (steps s) =
         let given : granted_by n d ≡ s.asked = subst (λ (x : Call). granted_by n x ≡ s.asked) (sym s.is) (cond-true (same_numbers n s.numbers) s.asked 0 (own_step n s c.held)) in
-        later (g + s.asked) (omega (arith, given)) (held_step n s c.held) (stepped_counted i j (first_automaton s.handed) (second_automaton s.handed) s.asked g (said a) (said m) s.does.1.stepped c.counted)
+        later (g + s.asked) (omega (arith, given)) (held_step n s c.held) (stepped_counted i j (first_automaton s.handed) (second_automaton s.handed) s.asked g (view a) (view m) s.does.1.stepped c.counted)
     one_call (parts p) =
         concluded_now
-        (ap (is_made_with n) p.is ∙ holders n (said a) p.claim.numbers c.held (part_holder p))
+        (ap (is_made_with n) p.is ∙ holders n (view a) p.claim.numbers c.held (part_holder p))
         (ap is_conclusion p.is)
     one_call (ends e) =
-        let its : is_made_with n d ≡ true = e.made n ∙ holders n (said a) e.numbers c.held e.holder in
+        let its : is_made_with n d ≡ true = e.made n ∙ holders n (view a) e.numbers c.held e.holder in
         let ungiven = (or_parts (is_made_with n d && is_giving_up d) (some_own n is_giving_up cs) c.kept).0 in
         ⊎_elim (λ included. concluded_now its (inclusion_concludes d included)) (λ gives. absurd (both_ways _ ungiven (and_from _ _ its gives))) e.which
 
   timely : (cs : List Call) (g : ℕ) (a now : Area) → Runs cs a now → Course cs g a → Timely cs now
-  timely [] g a now runs c = inr (subst (λ (x : Area). claim_refusal (said x) n Conclude ≡ None) (sym runs) (enough g a c.held c.counted (omega (arith, c.reached))))
+  timely [] g a now runs c = inr (subst (λ (x : Area). claim_refusal (view x) n Conclude ≡ None) (sym runs) (enough g a c.held c.counted (omega (arith, c.reached))))
   timely (d ∷ cs) g a now runs c = one_call d cs g a runs.0 now c (λ g' c'. timely cs g' runs.0 now runs.2 c') (effect d a runs.0 runs.1)
 
 -- a comparison that has begun
 begun_counted :
-    (w w' : Work) (T U : Tables) (live : Bool) → w' ≡ begun w T U live → Counted T.states U.states 0 w'
+    (w w' : View) (T U : Tables) (live : Bool) → w' ≡ begun w T U live → Counted T.states U.states 0 w'
 begun_counted w w' T U true is = record {
-  together = λ k apart. false≢true (ap is_apart (sym (ap (λ (x : Work). x.phase) is) ∙ apart));
-  firsts = ap (λ (x : Work). x.firsts) is;
-  seconds = ap (λ (x : Work). x.seconds) is;
-  runs = λ _. (ap (λ (x : Work). x.examined) is, omega (arith, ap (λ (x : Work). x.examined) is, ap (λ (x : Work). length x.pairs) is));
+  together = λ k apart. false≢true (ap is_apart (sym (ap (λ (x : View). x.phase) is) ∙ apart));
+  firsts = ap (λ (x : View). x.firsts) is;
+  seconds = ap (λ (x : View). x.seconds) is;
+  runs = λ _. (ap (λ (x : View). x.examined) is, omega (arith, ap (λ (x : View). x.examined) is, ap (λ (x : View). length x.pairs) is));
 }
-begun_counted w w' T U false is = ready T.states U.states 0 w' verdict.Included (ap (λ (x : Work). x.phase) is) (ap (λ (x : Work). x.firsts) is) (ap (λ (x : Work). x.seconds) is)
+begun_counted w w' T U false is = ready T.states U.states 0 w' verdict.Included (ap (λ (x : View). x.phase) is) (ap (λ (x : View). x.firsts) is) (ap (λ (x : View). x.seconds) is)
 
 pub in_time : (a : Area) (c : Comparison a) → NeitherOustedNorGivenUp c → GrantedAllPairs c → HasVerdict c
 in_time a c on reached =
@@ -203,7 +203,7 @@ in_time a c on reached =
     timely c.claim T.states U.states c.since 0 c.begun c.now c.goes_on
     (record {
       held = started_held c;
-      counted = begun_counted (said c.at) (said c.begun) T U s.live s.after;
+      counted = begun_counted (view c.at) (view c.begun) T U s.live s.after;
       unousted = on.unousted;
       kept = on.kept;
       reached = omega (arith, reached);

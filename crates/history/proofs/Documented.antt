@@ -15,10 +15,10 @@ use Rattle.compare.specs.declared.pairs.Listed.{Listed}
 use Rattle.compare.specs.declared.phase.Kind.{Kind}
 use Rattle.compare.specs.declared.phase.Phase.{Phase}
 use Rattle.compare.specs.declared.phase.Phase.TheVariants as phase
-use Rattle.compare.specs.Growing.{LastBroken, Stands}
+use Rattle.compare.specs.Invariant.{LastBroken, Stands}
 use Rattle.compare.specs.Trailing.{broken_index}
-use Rattle.compare.specs.Work.{Work, said}
-use Rattle.compare.proofs.Grown.{last_index}
+use Rattle.compare.specs.View.{View, view}
+use Rattle.compare.proofs.Invariant.{last_index}
 use Rattle.document.specs.Documents.{HasDocument}
 use Rattle.document.specs.Writing.{NoDocument, early_refusal}
 use Rattle.document.proofs.Existing.{has_document}
@@ -33,13 +33,13 @@ use Rattle.history.proofs.Verdicts.{GrownFor, grown_same, now_grown}
 -- the noted counts stay those of the schemas
 module _ (T U : Tables) where
   abbrev NotedIn : Area → Type 0
-  NotedIn a = Noted T U (said a)
+  NotedIn a = Noted T U (view a)
 
   noted_on : (n : Numbers) (d : Call) (a a' : Area) → Effect d a a' → Standing n NotedIn a → Standing n NotedIn a'
   noted_on n d a a' e =
       stands_on n NotedIn NotedIn (λ k noted. subst NotedIn (sym k.same) noted) (λ s its noted. onward (step_onward s) noted) (λ p noted. onward (part_onward p) noted) e
     where
-      onward : Onward (said a) (said a') → NotedIn a → NotedIn a'
+      onward : Onward (view a) (view a') → NotedIn a → NotedIn a'
       onward on noted = record {
         symbols = on.symbols ∙ noted.symbols;
         firsts = on.firsts ∙ noted.firsts;
@@ -52,7 +52,7 @@ module _ (n : Numbers) where
   IsApart a = is_apart a.phase ≡ true
 
   apart_after : (d : Call) (a a' : Area) → Parts d a a' → IsApart a'
-  apart_after d a a' p = ap (λ (x : Work). is_apart x.phase) (part_left p)
+  apart_after d a a' p = ap (λ (x : View). is_apart x.phase) (part_left p)
 
   apart_on : (d : Call) (a a' : Area) → Effect d a a' → Standing n IsApart a → Standing n IsApart a'
   apart_on d a a' e = stands_on n IsApart IsApart kept stepped (λ p was. apart_after d a a' p) e
@@ -63,7 +63,7 @@ module _ (n : Numbers) where
       stepped : (s : Steps d a a') → same_numbers n s.numbers ≡ true → IsApart a → IsApart a'
       stepped s its was =
           let still : a.phase ≡ phase.Running → ⊥ = λ runs. false≢true (sym (ap is_apart runs) ∙ was) in
-          ap (λ (x : Work). is_apart x.phase) (step_none s still) ∙ was
+          ap (λ (x : View). is_apart x.phase) (step_none s still) ∙ was
 
   -- the call that concludes it
   parting : (d : Call) (a a' : Area) → is_parting d ≡ true → Does d a a' → IsApart a'
@@ -78,7 +78,7 @@ module _ (n : Numbers) where
   parting d a a' is does = absurd (false≢true is)
 
   apart_since :
-      (cs : List Call) (a now : Area) → Runs cs a now → Held n (said a) →
+      (cs : List Call) (a now : Area) → Runs cs a now → Held n (view a) →
       some_own n is_parting cs ≡ true → Standing n IsApart now
   apart_since [] a now runs held so = absurd (false≢true so)
   apart_since (d ∷ cs) a now runs held so =
@@ -96,18 +96,18 @@ by_kind (phase.Apart k) is = (k, refl)
 by_kind p is = absurd (false≢true is)
 
 pub apart :
-    (a : Area) (c : Comparison a) → ApartAndHolder c → (k : Kind) × ((said c.now).phase ≡ phase.Apart k)
+    (a : Area) (c : Comparison a) → ApartAndHolder c → (k : Kind) × ((view c.now).phase ≡ phase.Apart k)
 apart a c on = by_kind c.now.phase (stands_now c.claim (λ x. is_apart x.phase ≡ true) c.now (apart_since c.claim c.since c.begun c.now c.goes_on (started_held c) on.parted) on.holder)
 
 -- while it is apart, the broken pair of a comparison of the two schemas has a document
 not_lacking :
     (g : Handed) (a : Area) (k : Kind) → a.phase ≡ phase.Apart k → GrownFor g a →
-    NoDocument (first_automaton g) (second_automaton g) (said a) → ⊥
+    NoDocument (first_automaton g) (second_automaton g) (view a) → ⊥
 unfolding HasDocument
 not_lacking g a k apart grown lacks =
     let A = first_automaton g in
     let B = second_automaton g in
-    let w = said a in
+    let w = view a in
     let last : LastBroken A B w k = subst (Stands A B w) apart grown.stands in
     let at : slice_get w.pairs (broken_index w) ≡ Some last.pair = ap (slice_get w.pairs) (last_index A B w k last) ∙ last.at in
     ⊎_elim
@@ -117,30 +117,30 @@ not_lacking g a k apart grown lacks =
 
 module _ {a : Area} (c : Comparison a) where
   -- the counts of its schemas are noted as long as its claim is the holder
-  now_noted : ApartAndHolder c → Noted c.schemas.first c.schemas.second (said c.now)
+  now_noted : ApartAndHolder c → Noted c.schemas.first c.schemas.second (view c.now)
   now_noted on =
       let T = c.schemas.first in
       let U = c.schemas.second in
       let after = (started_so c).does.1.after in
-      let begun : Noted T U (said c.begun) = record {
-        symbols = ap (λ (x : Work). x.symbols) after;
-        firsts = ap (λ (x : Work). x.firsts) after;
-        seconds = ap (λ (x : Work). x.seconds) after;
+      let begun : Noted T U (view c.begun) = record {
+        symbols = ap (λ (x : View). x.symbols) after;
+        firsts = ap (λ (x : View). x.firsts) after;
+        seconds = ap (λ (x : View). x.seconds) after;
       } in
       stands_now c.claim (NotedIn T U) c.now (stands_along c.claim (NotedIn T U) (noted_on T U c.claim) c.since c.begun c.now c.goes_on (inl (started_held c, begun))) on.holder
 
   -- so nothing is refused before a document is looked for
   not_early :
       ApartAndHolder c → (e : Refusal) → (r : DocumentRefused c e) →
-      early_refusal (said c.now) r.handed.first r.handed.second c.claim r.slots r.levels ≡ None
+      early_refusal (view c.now) r.handed.first r.handed.second c.claim r.slots r.levels ≡ None
   not_early on e r =
       let T = c.schemas.first in
       let U = c.schemas.second in
-      let w = said c.now in
+      let w = view c.now in
       let s = started_so c in
-      let may = begin_permitted (said c.at) T U s.event s.does.0 in
+      let may = begin_permitted (view c.at) T U s.event s.does.0 in
       let there = apart a c on in
-      let none = nothing_early w c.claim T U there.0 r.slots r.levels may.0 (same_symbols w T U (said c.at) may.1) (now_noted on) (holder_held w c.claim on.holder) there.1 r.enough_slots r.enough_levels in
+      let none = nothing_early w c.claim T U there.0 r.slots r.levels may.0 (same_symbols w T U (view c.at) may.1) (now_noted on) (holder_held w c.claim on.holder) there.1 r.enough_slots r.enough_levels in
       ap₂ (λ (T : Tables) (U : Tables). early_refusal w T U c.claim r.slots r.levels) (sym r.same.first) (sym r.same.second) ∙ none
 
 pub documented :

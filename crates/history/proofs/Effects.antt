@@ -14,7 +14,7 @@ use Rattle.compare.specs.declared.phase.Phase.TheVariants as phase
 use Rattle.compare.specs.Beginning.{Beginning}
 use Rattle.compare.specs.Concluding.{Conclusion, GivingUp}
 use Rattle.compare.specs.Stepping.{Turns, Stepping}
-use Rattle.compare.specs.Work.{Work, said, free, in_phase, is_free, held_by}
+use Rattle.compare.specs.View.{View, view, free, in_phase, is_free, held_by}
 use Rattle.history.specs.Calls.{Handed, first_automaton, second_automaton, Call, take_up, oust, step, conclude, give_up, Does, same_numbers, is_made_with, is_inclusion, is_giving_up, is_ousting, granted_by, told_by, Starts}
 use Rattle.history.specs.Comparisons.{Comparison}
 use Rattle.history.proofs.Permits.{Held, held_by_near, claim_permitted, step_permitted, begin_permitted, take_free}
@@ -57,10 +57,10 @@ module _ (d : Call) (a a' : Area) where
   -- the holder concludes included, or gives up
   pub record Ends : Type 0 where
     pub numbers : Numbers
-    pub holder : Held numbers (said a)
+    pub holder : Held numbers (view a)
     pub made : (n : Numbers) → is_made_with n d ≡ same_numbers n numbers
     pub which : (is_inclusion d ≡ true) ⊎ (is_giving_up d ≡ true)
-    pub freed : said a' ≡ free a.number a.serial
+    pub freed : view a' ≡ free a.number a.serial
 
 -- what a call does
 pub data Effect (d : Call) (a a' : Area) : Type 0 where
@@ -71,15 +71,15 @@ pub data Effect (d : Call) (a a' : Area) : Type 0 where
   ends : Ends d a a' → Effect d a a'
 
 given_up : (m : Numbers) (k : ℕ) (a a' : Area) → GivingUp a m (Ok k) a' → Effect (give_up m (Ok k)) a a'
-given_up m k a a' does = by (held_by (said a) m.serial) refl does.1
+given_up m k a a' does = by (held_by (view a) m.serial) refl does.1
   where
     by :
-        (b : Bool) → held_by (said a) m.serial ≡ b →
-        cond b ((k ≡ 1) × (said a' ≡ free a.number a.serial)) ((k ≡ 0) × (a' ≡ a)) →
+        (b : Bool) → held_by (view a) m.serial ≡ b →
+        cond b ((k ≡ 1) × (view a' ≡ free a.number a.serial)) ((k ≡ 0) × (a' ≡ a)) →
         Effect (give_up m (Ok k)) a a'
     by true held up = ends (record {
       numbers = m;
-      holder = held_by_near (said a) m does.0 held;
+      holder = held_by_near (view a) m does.0 held;
       made = λ n. refl;
       which = inr refl;
       freed = up.1;
@@ -93,7 +93,7 @@ effect (take_up h (Ok c)) a a' does =
       handed = h;
       claim = c;
       does = does;
-      how = inr (take_free (said a) (begin_permitted (said a) h.first h.second Take does.0).2);
+      how = inr (take_free (view a) (begin_permitted (view a) h.first h.second Take does.0).2);
       unowned = λ n. refl;
     })
 effect (oust h (Ok c)) a a' does = begins (record {
@@ -116,7 +116,7 @@ effect (step m h asked slots (Ok answer)) a a' does = steps (record {
 effect (conclude c (Ok (concluded.Included n))) a a' does =
     ends (record {
       numbers = c.numbers;
-      holder = (claim_permitted (said a) c.numbers Conclude does.0).0;
+      holder = (claim_permitted (view a) c.numbers Conclude does.0).0;
       made = λ n. refl;
       which = inl refl;
       freed = does.1.2;
@@ -135,31 +135,31 @@ effect d a a' does = keeps (record { same = does.1; grants = λ n. refl; tells =
 
 -- no turn is taken of an area that does not run
 turns_none :
-    (A B : Automaton) (j : ℕ) (w w' : Work) → (w.phase ≡ phase.Running → ⊥) → Turns A B j w w' → w' ≡ w
+    (A B : Automaton) (j : ℕ) (w w' : View) → (w.phase ≡ phase.Running → ⊥) → Turns A B j w w' → w' ≡ w
 turns_none A B zero w w' still turns = turns
 turns_none A B (suc j) w w' still turns =
-    absurd (still (ap (λ (x : Work). x.phase) (sym (turns_none A B j w turns.0 still turns.1)) ∙ turns.2))
+    absurd (still (ap (λ (x : View). x.phase) (sym (turns_none A B j w turns.0 still turns.1)) ∙ turns.2))
 
 module _ {d : Call} {a a' : Area} where
   -- a step is the holder's, and so is a conclusion
-  pub step_holder : (s : Steps d a a') → Held s.numbers (said a)
-  step_holder s = step_permitted (said a) s.numbers s.handed.first s.handed.second s.asked s.slots s.does.0
+  pub step_holder : (s : Steps d a a') → Held s.numbers (view a)
+  step_holder s = step_permitted (view a) s.numbers s.handed.first s.handed.second s.asked s.slots s.does.0
 
-  pub part_holder : (p : Parts d a a') → Held p.claim.numbers (said a)
-  part_holder p = (claim_permitted (said a) p.claim.numbers Conclude p.does.0).0
+  pub part_holder : (p : Parts d a a') → Held p.claim.numbers (view a)
+  part_holder p = (claim_permitted (view a) p.claim.numbers Conclude p.does.0).0
 
   -- a step takes turns
   pub step_turns :
       (s : Steps d a a') →
-      Turns (first_automaton s.handed) (second_automaton s.handed) s.does.1.stepped.taken (said a) (said a')
+      Turns (first_automaton s.handed) (second_automaton s.handed) s.does.1.stepped.taken (view a) (view a')
   step_turns s = s.does.1.stepped.turns
 
   -- none where the area does not run, which then stays as it was
-  pub step_none : (s : Steps d a a') → (a.phase ≡ phase.Running → ⊥) → said a' ≡ said a
-  step_none s still = turns_none (first_automaton s.handed) (second_automaton s.handed) s.does.1.stepped.taken (said a) (said a') still (step_turns s)
+  pub step_none : (s : Steps d a a') → (a.phase ≡ phase.Running → ⊥) → view a' ≡ view a
+  step_none s still = turns_none (first_automaton s.handed) (second_automaton s.handed) s.does.1.stepped.taken (view a) (view a') still (step_turns s)
 
   -- a conclusion apart changes the phase alone
-  pub part_left : (p : Parts d a a') → said a' ≡ in_phase (said a) (phase.Apart p.kind)
+  pub part_left : (p : Parts d a a') → view a' ≡ in_phase (view a) (phase.Apart p.kind)
   part_left p = p.does.1.4
 
 -- what began a comparison of these schemas, whose claim has these numbers

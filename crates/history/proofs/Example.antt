@@ -18,8 +18,8 @@ use Rattle.compare.specs.declared.event.Event.TheVariants.{Take}
 use Rattle.compare.specs.Beginning.{begin_refusal, Begins}
 use Rattle.compare.specs.declared.step.TheConstants.{MOST_STEPS}
 use Rattle.compare.specs.Stepping.{Stepped}
-use Rattle.compare.specs.Work.{Work, said, free}
-use Rattle.compare.proofs.Keeping.{kept_from, Kept}
+use Rattle.compare.specs.View.{View, view, free}
+use Rattle.compare.proofs.Keeping.{kept_pairs_from, Kept}
 use Rattle.document.specs.Writing.{Found}
 use Rattle.history.specs.Calls.{take_up, Does, Runs}
 use Rattle.history.specs.Example.{pair_of, claim, room_for_six, example, ExampleRuns}
@@ -80,7 +80,7 @@ kept_one =
 
 -- the list with the pair (0, 0), for two schemas of one state each
 abbrev one_pair : Pairs
-one_pair = record { firsts = 1; seconds = 1; entries = slots; length = 1; bits = bits; sound = kept_from 1 1 slots 1 bits kept_one }
+one_pair = record { firsts = 1; seconds = 1; entries = slots; length = 1; bits = bits; sound = kept_pairs_from 1 1 slots 1 bits kept_one }
 
 -- the area with that list
 abbrev listing : ℕ → Phase → ℕ → Area
@@ -101,32 +101,32 @@ abbrev ready_included : Area
 ready_included = listing 3 (phase.Ready verdict.Included) 1
 
 -- the steps of the two
-v_u_step : Stepped (over_zero V) (over_zero U) MOST_STEPS (said (running 2)) (said ready_apart)
+v_u_step : Stepped (over_zero V) (over_zero U) MOST_STEPS (view (running 2)) (view ready_apart)
 v_u_step =
     let examined = broken_examined V U (free 7 1) v_u_broken in
-    one_turn (over_zero V) (over_zero U) (said (running 2)) (said ready_apart) (verdict.Apart Content) MOST_STEPS refl examined refl (omega arith)
+    one_turn (over_zero V) (over_zero U) (view (running 2)) (view ready_apart) (verdict.Apart Content) MOST_STEPS refl examined refl (omega arith)
 
-u_v_step : Stepped (over_zero U) (over_zero V) 1 (said (running 3)) (said ready_included)
-u_v_step = one_turn (over_zero U) (over_zero V) (said (running 3)) (said ready_included) verdict.Included 1 refl (u_v_examined (free 7 2)) refl (omega arith)
+u_v_step : Stepped (over_zero U) (over_zero V) 1 (view (running 3)) (view ready_included)
+u_v_step = one_turn (over_zero U) (over_zero V) (view (running 3)) (view ready_included) verdict.Included 1 refl (u_v_examined (free 7 2)) refl (omega arith)
 
 -- the document of V and U
-abbrev v_u_found : Found (over_zero V) (over_zero U) (said concluded_apart)
+abbrev v_u_found : Found (over_zero V) (over_zero U) (view concluded_apart)
 v_u_found = record { way = []; tree = v_u_document.tree; document = (Content, refl, v_u_document.document) }
 
-module _ (a : Area) (made : said a ≡ free 7 0) where
+module _ (a : Area) (made : view a ≡ free 7 0) where
   -- the area that is free again, with the list that it had as it was made
   abbrev free_again : ℕ → Area
   free_again serial = record { number = 7; serial = serial; phase = phase.Free; symbols = 0; pairs = a.pairs; examined = 0 }
 
-  said_free : (serial : ℕ) → said (free_again serial) ≡ free 7 serial
-  said_free serial = ap (λ (w : Work). record w { number = 7; serial = serial; phase = phase.Free; symbols = 0; examined = 0 }) made
+  said_free : (serial : ℕ) → view (free_again serial) ≡ free 7 serial
+  said_free serial = ap (λ (w : View). record w { number = 7; serial = serial; phase = phase.Free; symbols = 0; examined = 0 }) made
 
   -- a comparison of U and V begins on a free area
   begins :
-      (x : Area) (serial : ℕ) → said x ≡ free 7 serial → begin_refusal (free 7 serial) U V Take ≡ None →
+      (x : Area) (serial : ℕ) → view x ≡ free 7 serial → begin_refusal (free 7 serial) U V Take ≡ None →
       Does (take_up (pair_of U V) (Ok (claim (serial + 1)))) x (running (serial + 1))
   begins x serial is may =
-      subst (λ (w : Work). (begin_refusal w U V Take ≡ None) × Begins U V zero_alone w (claim (serial + 1)) (said (running (serial + 1)))) (sym is)
+      subst (λ (w : View). (begin_refusal w U V Take ≡ None) × Begins U V zero_alone w (claim (serial + 1)) (view (running (serial + 1)))) (sym is)
       (may, record { live = true; decides = (λ yes. alone_U, λ alive. refl); after = refl; number = refl; serial = refl })
 
   -- the calls after the first k run from here

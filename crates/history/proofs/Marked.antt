@@ -22,10 +22,10 @@ use Rattle.compare.specs.declared.phase.Verdict.{Verdict}
 use Rattle.compare.specs.declared.phase.Verdict.TheVariants.{Included, Apart}
 use Rattle.compare.specs.Breaking.{Broken, Unbroken}
 use Rattle.compare.specs.declared.step.TheConstants.{MOST_STEPS}
-use Rattle.compare.specs.Growing.{LastBroken}
+use Rattle.compare.specs.Invariant.{LastBroken}
 use Rattle.compare.specs.Stepping.{examined_to, Stepped, Examines, is_running}
 use Rattle.compare.specs.Pairs.{start}
-use Rattle.compare.specs.Work.{Work, begun}
+use Rattle.compare.specs.View.{View, begun}
 use Rattle.compare.proofs.Outcomes.{same_decision}
 use Rattle.compare.proofs.Turned.{one_stepped}
 use Rattle.document.specs.Samples.{LowerSequence, Sample}
@@ -125,7 +125,7 @@ u_w_document =
 
 -- a step of a running area whose first turn brings the verdict
 pub one_turn :
-    (A B : Automaton) (w w' : Work) (v : Verdict) (n : ℕ) → w.phase ≡ Running → Examines A B w w' →
+    (A B : Automaton) (w w' : View) (v : Verdict) (n : ℕ) → w.phase ≡ Running → Examines A B w w' →
     w'.phase ≡ Ready v → 1 ≤ n → Stepped A B n w w'
 one_turn A B w w' v n runs examines ready some =
     record {
@@ -137,7 +137,7 @@ one_turn A B w w' v n runs examines ready some =
 
 -- U's pair with V is unbroken, and no symbol is live at U's state
 pub u_v_examined :
-    (w : Work) →
+    (w : View) →
     Examines (over_zero U) (over_zero V) (begun w U V true) (examined_to (begun w U V true) (start ∷ []) (Ready Included))
 u_v_examined w = record { pair = start; at = refl; outcome = inr (unbroken, ((λ a. false), dead_symbols, refl)) }
   where
@@ -152,7 +152,7 @@ u_v_examined w = record { pair = start; at = refl; outcome = inr (unbroken, ((λ
 
 -- a pair (0, 0) that is broken in content
 pub broken_examined :
-    (S T : Tables) (w : Work) → Broken (over_zero S) (over_zero T) Content 0 0 →
+    (S T : Tables) (w : View) → Broken (over_zero S) (over_zero T) Content 0 0 →
     Examines (over_zero S) (over_zero T) (begun w S T true) (examined_to (begun w S T true) (start ∷ []) (Ready (Apart Content)))
 broken_examined S T w broken = record { pair = start; at = refl; outcome = inl (Content, broken, refl) }
 
@@ -162,8 +162,8 @@ v_u_broken = (0 ∷ [], one_child, refl)
 module _ (S T : Tables) where
   -- one outcome of a comparison of the two, with no other kind in which the pair examined last is
   -- broken
-  record Outcome (live : Bool) (v : Verdict) (n : ℕ) (w : Work) : Type 0 where
-    after : Work
+  record Outcome (live : Bool) (v : Verdict) (n : ℕ) (w : View) : Type 0 where
+    after : View
     stepped : Stepped (over_zero S) (over_zero T) MOST_STEPS (begun w S T live) after
     verdict : after.phase ≡ Ready v
     count : after.examined ≡ n
@@ -174,7 +174,7 @@ module _ (S T : Tables) where
   -- there is no other one
   settled :
       (live : Bool) (v : Verdict) (n : ℕ) → Decides live (Live (over_zero S) 0) →
-      ((w : Work) → Outcome live v n w) → ComesTo S T v n
+      ((w : View) → Outcome live v n w) → ComesTo S T v n
   settled live v n decides outcome =
       record {
         some = λ w. ((outcome w).after, record { live = live; decides = decides; stepped = (outcome w).stepped });
@@ -182,13 +182,13 @@ module _ (S T : Tables) where
         count = λ w w' c. (only w w' c).1;
       }
     where
-      only : (w w' : Work) → Compares S T w w' → (w'.phase ≡ Ready v) × (w'.examined ≡ n)
+      only : (w w' : View) → Compares S T w w' → (w'.phase ≡ Ready v) × (w'.examined ≡ n)
       only w w' c =
           let o = outcome w in
           let other : Stepped (over_zero S) (over_zero T) MOST_STEPS (begun w S T live) w' = subst (λ (b : Bool). Stepped (over_zero S) (over_zero T) MOST_STEPS (begun w S T b) w') (same_decision c.live live c.decides decides) c.stepped in
           ⊎_elim
-          (λ same. (ap {B = Phase} (λ (x : Work). x.phase) same ∙ o.verdict, ap {B = ℕ} (λ (x : Work). x.examined) same ∙ o.count))
-          (λ kinds. (ap {B = Phase} (λ (x : Work). x.phase) kinds.3 ∙ ap Ready (sym (o.kind kinds.0 kinds.1 kinds.2 kinds.5)), ap {B = ℕ} (λ (x : Work). x.examined) kinds.3 ∙ o.count))
+          (λ same. (ap {B = Phase} (λ (x : View). x.phase) same ∙ o.verdict, ap {B = ℕ} (λ (x : View). x.examined) same ∙ o.count))
+          (λ kinds. (ap {B = Phase} (λ (x : View). x.phase) kinds.3 ∙ ap Ready (sym (o.kind kinds.0 kinds.1 kinds.2 kinds.5)), ap {B = ℕ} (λ (x : View). x.examined) kinds.3 ∙ o.count))
           (one_stepped (over_zero S) (over_zero T) MOST_STEPS (begun w S T live) o.after w' o.stepped other)
 
   -- the pair (0, 0) is broken in content alone

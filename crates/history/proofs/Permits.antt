@@ -18,13 +18,13 @@ use Rattle.compare.specs.declared.phase.Phase.{Phase}
 use Rattle.compare.specs.declared.phase.Phase.TheVariants as phase
 use Rattle.compare.specs.declared.phase.Verdict.{Verdict}
 use Rattle.compare.specs.declared.phase.Verdict.TheVariants as verdict
-use Rattle.compare.specs.Beginning.{begin_refusal, kept_from as begin_kept_from}
+use Rattle.compare.specs.Beginning.{begin_refusal, begin_kept_from}
 use Rattle.compare.specs.Concluding.{claim_refusal}
 use Rattle.compare.specs.Phases.{decided}
 use Rattle.compare.specs.Refusals.{where_found, by_phase, of_another, other_symbols, other_counts, phase_refuses, short_scratch, holder_refusal, held_kept_from}
 use Rattle.compare.specs.Stepping.{step_kept_from, step_refusal}
-use Rattle.compare.specs.Strangers.{is_holder}
-use Rattle.compare.specs.Work.{Work, is_free, held_by}
+use Rattle.compare.specs.NotHolder.{is_holder}
+use Rattle.compare.specs.View.{View, is_free, held_by}
 use Rattle.compare.specs.Writing.{write_kept_from}
 use Rattle.compare.proofs.Allowing.{fails, held_allows}
 use Rattle.compare.proofs.Tests.{holder_passed, holder_passes}
@@ -32,19 +32,19 @@ use Rattle.document.specs.declared.document.TheConstants.{LEVELS}
 use Rattle.document.specs.Writing.{short_levels, kept_from, early_refusal}
 
 -- the comparison whose claim has these numbers holds the area
-pub record Held (n : Numbers) (w : Work) : Type 0 where
+pub record Held (n : Numbers) (w : View) : Type 0 where
   pub number : w.number ≡ n.area
   pub serial : w.serial ≡ n.serial
   pub busy : is_free w.phase ≡ false
 
 -- the noted counts are those of the schemas
-pub record Noted (T U : Tables) (w : Work) : Type 0 where
+pub record Noted (T U : Tables) (w : View) : Type 0 where
   pub symbols : w.symbols ≡ T.symbols
   pub firsts : w.firsts ≡ T.states
   pub seconds : w.seconds ≡ U.states
 
 -- a test that finds nothing, and a list of tests whose first does not
-not_found : (b : Bool) (w : Work) (f : Fault) → b ≡ false → where_found b w f ≡ None
+not_found : (b : Bool) (w : View) (f : Fault) → b ≡ false → where_found b w f ≡ None
 not_found b w f is = cond-false b (Some (record { fault = f; place = w.serial })) None is
 
 then_none :
@@ -52,7 +52,7 @@ then_none :
     first_of (o ∷ os) ≡ None
 then_none o os none rest = ap (λ (r : Option Refusal). first_of (r ∷ os)) none ∙ rest
 
-module _ (w : Work) (n : Numbers) where
+module _ (w : View) (n : Numbers) where
   -- it holds the area where its claim is the holder
   pub held_by_near : of_another w n.area ≡ None → held_by w n.serial ≡ true → Held n w
   held_by_near near held =
@@ -133,7 +133,7 @@ module _ (w : Work) (n : Numbers) where
       levels_suffice : short_levels levels ≡ None
       levels_suffice = cond-false (ltb levels LEVELS) _ None (le-ltb levels LEVELS deep)
 
-module _ (w : Work) (T U : Tables) where
+module _ (w : View) (T U : Tables) where
   -- what begins is not refused by the schemas, their symbols or the phase
   pub begin_permitted :
       (e : Event) → begin_refusal w T U e ≡ None →
@@ -144,18 +144,18 @@ module _ (w : Work) (T U : Tables) where
       (sound.0, kept.0, (first_none (phase_refuses w e) _ kept.1).0)
 
   -- and it does not depend on the area whether two schemas differ in symbols
-  pub same_symbols : (v : Work) → other_symbols v T U ≡ None → other_symbols w T U ≡ None
+  pub same_symbols : (v : View) → other_symbols v T U ≡ None → other_symbols w T U ≡ None
   same_symbols v none = not_found _ w Symbols (fails _ _ none)
 
 -- taking is for a free area alone, and writing for one that is apart
-pub take_free : (w : Work) → phase_refuses w Take ≡ None → is_free w.phase ≡ true
+pub take_free : (w : View) → phase_refuses w Take ≡ None → is_free w.phase ≡ true
 take_free w none = by w.phase none
   where
     by : (p : Phase) → by_phase w (decided p Take) ≡ None → is_free p ≡ true
     by phase.Free h = refl
     by p h = absurd (some_not_none h)
 
-pub write_apart : (w : Work) → phase_refuses w Write ≡ None → (k : Kind) × (w.phase ≡ phase.Apart k)
+pub write_apart : (w : View) → phase_refuses w Write ≡ None → (k : Kind) × (w.phase ≡ phase.Apart k)
 write_apart w none = by w.phase none
   where
     by : (p : Phase) → by_phase w (decided p Write) ≡ None → (k : Kind) × (p ≡ phase.Apart k)

@@ -8,7 +8,7 @@ use Rattle.compare.specs.declared.claim.Numbers.{Numbers}
 use Rattle.compare.specs.declared.conclude.Concluded.{Concluded}
 use Rattle.compare.specs.declared.conclude.Concluded.TheVariants as concluded
 use Rattle.compare.specs.Concluding.{Conclusion}
-use Rattle.compare.specs.Work.{Work}
+use Rattle.compare.specs.View.{View}
 use Rattle.history.specs.Calls.{Call, Runs, same_numbers, told_by, told}
 use Rattle.history.specs.Comparisons.{Comparison, ConcludesNow}
 use Rattle.history.specs.Law.{count_of}
@@ -34,7 +34,7 @@ module _ (n : Numbers) where
           omega (arith, so, tells, s.does.1.count, (step_onward s).examined)
 
       parted : Parts d a a' → a.examined ≡ k → a'.examined ≡ k + told_by n d
-      parted p so = omega (arith, so, ap (told_by n) p.is, ap (λ (x : Work). x.examined) (part_left p))
+      parted p so = omega (arith, so, ap (told_by n) p.is, ap (λ (x : View). x.examined) (part_left p))
 
   run_tallied :
       (cs : List Call) (a now : Area) (k : ℕ) → Runs cs a now → Tally k a → Tally (k + told n cs) now
@@ -54,7 +54,7 @@ pub counted :
     (a : Area) (c : Comparison a) → (v : Concluded) → ConcludesNow c v →
     count_of v ≡ told c.claim c.since
 counted a c v asked =
-    let start : c.begun.examined ≡ 0 = ap (λ (x : Work). x.examined) (started_so c).does.1.after in
+    let start : c.begun.examined ≡ 0 = ap (λ (x : View). x.examined) (started_so c).does.1.after in
     let tally = run_tallied c.claim c.since c.begun c.now 0 c.goes_on (inl (started_held c, start)) in
     let so = stands_now c.claim (λ a. a.examined ≡ 0 + told c.claim c.since) c.now tally (concluder c v asked) in
     omega (arith, counts_examined c.now asked.after asked.claim v asked.does, so)

@@ -16,10 +16,10 @@ use Rattle.compare.specs.declared.phase.Phase.TheVariants as phase
 use Rattle.compare.specs.declared.phase.Verdict.TheVariants as verdict
 use Rattle.compare.specs.Breaking.{ToldApart}
 use Rattle.compare.specs.Concluding.{Conclusion}
-use Rattle.compare.specs.Growing.{LastBroken, Stands, Grown, BeginsGrown, StepsGrown, ConcludesGrown, IncludedCarries, ApartTells}
-use Rattle.compare.specs.Strangers.{is_holder}
-use Rattle.compare.specs.Work.{Work, said}
-use Rattle.compare.proofs.Grown.{begins_grown, steps_grown, concludes_grown, included_carries, apart_tells}
+use Rattle.compare.specs.Invariant.{LastBroken, Stands, Invariant, InvariantBegins, InvariantSteps, InvariantConcludes, IncludedCarries, ApartTells}
+use Rattle.compare.specs.NotHolder.{is_holder}
+use Rattle.compare.specs.View.{View, view}
+use Rattle.compare.proofs.Invariant.{invariant_begins, invariant_steps, invariant_concludes, included_carries, apart_tells}
 use Rattle.history.specs.Calls.{Handed, first_automaton, second_automaton, Same, Call, Runs, same_numbers, StepsOver}
 use Rattle.history.specs.Comparisons.{Comparison, StepsOverItsOwn, IsHolder, ConcludesNow}
 use Rattle.history.specs.Law.{Inclusion, ReachesBroken, Right}
@@ -30,16 +30,16 @@ use Rattle.history.proofs.Transport.{same_first, same_second}
 
 -- the area has come as far as a comparison of these schemas does
 abbrev pub GrownFor : Handed → Area → Type 0
-GrownFor g a = Grown (first_automaton g) (second_automaton g) (said a)
+GrownFor g a = Invariant (first_automaton g) (second_automaton g) (view a)
 
 -- so it has for the same schemas
 pub grown_same : (g h : Handed) (a : Area) → Same g h → GrownFor g a → GrownFor h a
 grown_same g h a same grown =
-    subst (λ (X : Automaton). Grown X (second_automaton h) (said a)) (same_first g h same) (subst (λ (Y : Automaton). Grown (first_automaton g) Y (said a)) (same_second g h same) grown)
+    subst (λ (X : Automaton). Invariant X (second_automaton h) (view a)) (same_first g h same) (subst (λ (Y : Automaton). Invariant (first_automaton g) Y (view a)) (same_second g h same) grown)
 
 grown_back : (g h : Handed) (a : Area) → Same g h → GrownFor h a → GrownFor g a
 grown_back g h a same grown =
-    subst (λ (X : Automaton). Grown X (second_automaton g) (said a)) (sym (same_first g h same)) (subst (λ (Y : Automaton). Grown (first_automaton h) Y (said a)) (sym (same_second g h same)) grown)
+    subst (λ (X : Automaton). Invariant X (second_automaton g) (view a)) (sym (same_first g h same)) (subst (λ (Y : Automaton). Invariant (first_automaton h) Y (view a)) (sym (same_second g h same)) grown)
 
 module _ (g : Handed) (n : Numbers) where
   -- it holds the area, which has come as far as a comparison of its schemas does; or it has ended
@@ -48,7 +48,7 @@ module _ (g : Handed) (n : Numbers) where
 
   -- what each call keeps
   pub known_on : (d : Call) (a a' : Area) → StepsOver n g d → Effect d a a' → Known a → Known a'
-  unfolding StepsGrown ConcludesGrown
+  unfolding InvariantSteps InvariantConcludes
   known_on d a a' over e = stands_on n (GrownFor g) (GrownFor g) kept stepped parted e
     where
       kept : Keeps d a a' → GrownFor g a → GrownFor g a'
@@ -58,10 +58,10 @@ module _ (g : Handed) (n : Numbers) where
       stepped s its grown =
           let h = s.handed in
           let same : Same g h = subst (StepsOver n g) s.is over its in
-          grown_back g h a' same (steps_grown h.first h.second h.first_sets h.second_sets s.numbers s.asked s.slots a s.answer a' s.does (grown_same g h a same grown))
+          grown_back g h a' same (invariant_steps h.first h.second h.first_sets h.second_sets s.numbers s.asked s.slots a s.answer a' s.does (grown_same g h a same grown))
 
       parted : Parts d a a' → GrownFor g a → GrownFor g a'
-      parted p grown = concludes_grown (first_automaton g) (second_automaton g) a p.claim p.kind p.count p.apart a' p.does grown
+      parted p grown = invariant_concludes (first_automaton g) (second_automaton g) a p.claim p.kind p.count p.apart a' p.does grown
 
   run_known :
       (cs : List Call) (a now : Area) → Runs cs a now → AllByRecursion (StepsOver n g) cs → Known a →
@@ -72,21 +72,21 @@ module _ (g : Handed) (n : Numbers) where
 module _ {a : Area} (c : Comparison a) where
   -- what a beginning gives
   pub begun_known : Known c.schemas c.claim c.begun
-  unfolding BeginsGrown
+  unfolding InvariantBegins
   begun_known =
       let s = started_so c in
       let g = c.schemas in
-      inl (started_held c, begins_grown s.event g.first g.second g.first_sets g.second_sets c.at s.claim c.begun s.does)
+      inl (started_held c, invariant_begins s.event g.first g.second g.first_sets g.second_sets c.at s.claim c.begun s.does)
 
   -- and what there is now, as long as its claim is the holder
-  pub now_grown : StepsOverItsOwn c → is_holder (said c.now) c.claim ≡ true → GrownFor c.schemas c.now
+  pub now_grown : StepsOverItsOwn c → is_holder (view c.now) c.claim ≡ true → GrownFor c.schemas c.now
   now_grown over holder = stands_now c.claim (GrownFor c.schemas) c.now (run_known c.schemas c.claim c.since c.begun c.now c.goes_on over begun_known) holder
 
   -- one that is concluded now is the holder's
   pub concluder : (v : Concluded) → ConcludesNow c v → IsHolder c
   concluder v asked =
-      let its = claim_permitted (said c.now) asked.claim.numbers Conclude asked.does.0 in
-      subst (λ (m : Numbers). is_holder (said c.now) m ≡ true) asked.own (held_holder (said c.now) asked.claim.numbers its.0)
+      let its = claim_permitted (view c.now) asked.claim.numbers Conclude asked.does.0 in
+      subst (λ (m : Numbers). is_holder (view c.now) m ≡ true) asked.own (held_holder (view c.now) asked.claim.numbers its.0)
 
 module _ (A B : Automaton) where
   included_right : Inclusion A B → (count : ℕ) → Right A B (Included count)
@@ -109,7 +109,7 @@ module _ (A B : Automaton) where
 
   -- the pair that was examined last is reached
   last_reached :
-      (w : Work) (k : Kind) (count : ℕ) (claim : Lease parted.Apart) → Grown A B w →
+      (w : View) (k : Kind) (count : ℕ) (claim : Lease parted.Apart) → Invariant A B w →
       w.phase ≡ phase.Ready (verdict.Apart k) → ReachesBroken A B (Apart k count claim)
   last_reached w k count claim grown is =
       let last : LastBroken A B w k = subst (Stands A B w) is grown.stands in
@@ -117,11 +117,11 @@ module _ (A B : Automaton) where
       record { word = r.0; first = last.pair.first; second = last.pair.second; live = r.2; beside = r.3; broken = last.broken }
 
   conclusion_right :
-      (a a' : Area) (claim : Lease Comparing) (v : Concluded) → Grown A B (said a) →
+      (a a' : Area) (claim : Lease Comparing) (v : Concluded) → Invariant A B (view a) →
       Conclusion a claim (Ok v) a' → Right A B v
   unfolding IncludedCarries ApartTells
-  conclusion_right a a' claim (Included count) grown does = included_right (included_carries A B (said a) grown does.1.0) count
-  conclusion_right a a' claim (Apart k count apart) grown does = apart_right (apart_tells A B (said a) k grown (inl does.1.0)) k count apart (last_reached (said a) k count apart grown does.1.0)
+  conclusion_right a a' claim (Included count) grown does = included_right (included_carries A B (view a) grown does.1.0) count
+  conclusion_right a a' claim (Apart k count apart) grown does = apart_right (apart_tells A B (view a) k grown (inl does.1.0)) k count apart (last_reached (view a) k count apart grown does.1.0)
 
 pub concluded :
     (a : Area) (c : Comparison a) → StepsOverItsOwn c → (v : Concluded) → ConcludesNow c v →

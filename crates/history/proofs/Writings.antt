@@ -18,10 +18,10 @@ use Rattle.compare.specs.declared.phase.Kind.{Kind}
 use Rattle.compare.specs.declared.phase.Phase.{Phase}
 use Rattle.compare.specs.declared.phase.Phase.TheVariants as phase
 use Rattle.compare.specs.Concluding.{claim_refusal}
-use Rattle.compare.specs.Growing.{Path, LastBroken, Stands}
+use Rattle.compare.specs.Invariant.{StatePath, LastBroken, Stands}
 use Rattle.compare.specs.Trailing.{Trail, broken_index}
-use Rattle.compare.specs.Work.{Work, said}
-use Rattle.compare.proofs.Grown.{last_index}
+use Rattle.compare.specs.View.{View, view}
+use Rattle.compare.proofs.Invariant.{last_index}
 use Rattle.compare.proofs.Trails.{one_trail}
 use Rattle.document.specs.Documents.{Way, symbols_of, DocumentOf}
 use Rattle.document.proofs.Accepting.{built_tells}
@@ -37,45 +37,45 @@ use Rattle.history.proofs.Transport.{same_first, same_second}
 use Rattle.history.proofs.Verdicts.{GrownFor, Known, known_on, begun_known}
 
 -- who writes with an accepted trail or document: the holder of an area that is apart
-record Writer (d : Call) (w : Work) : Type 0 where
+record Writer (d : Call) (w : View) : Type 0 where
   numbers : Numbers
   holds : Held numbers w
   made : (n : Numbers) → is_made_with n d ≡ same_numbers n numbers
   apart : (k : Kind) × (w.phase ≡ phase.Apart k)
 
-writer : (d : Call) (a a' : Area) → Does d a a' → is_writing d ≡ true → Writer d (said a)
+writer : (d : Call) (a a' : Area) → Does d a a' → is_writing d ≡ true → Writer d (view a)
 writer (trail m o (Ok size) o') a a' does so =
-    let may = claim_permitted (said a) m Write (first_none (claim_refusal (said a) m Write) _ does.0.2.0).0 in
-    record { numbers = m; holds = may.0; made = λ n. refl; apart = write_apart (said a) may.1 }
+    let may = claim_permitted (view a) m Write (first_none (claim_refusal (view a) m Write) _ does.0.2.0).0 in
+    record { numbers = m; holds = may.0; made = λ n. refl; apart = write_apart (view a) may.1 }
 writer (document m h slots levels o (Ok size) o') a a' does so =
     ⊎_elim
     (λ refused. absurd (false≢true (sym (ap is_ok refused.2))))
     (λ found.
-    let may = document_permitted (said a) m h.first h.second slots levels found.0 in
-    record { numbers = m; holds = may.0; made = λ n. refl; apart = write_apart (said a) may.1 })
+    let may = document_permitted (view a) m h.first h.second slots levels found.0 in
+    record { numbers = m; holds = may.0; made = λ n. refl; apart = write_apart (view a) may.1 })
     does.0
 writer d a a' does so = absurd (false≢true so)
 
 -- who writes has not ended
 gone_unwritten :
-    (n : Numbers) (d : Call) (a a' : Area) → Does d a a' → Gone n (said a) → is_made_with n d ≡ true →
+    (n : Numbers) (d : Call) (a a' : Area) → Does d a a' → Gone n (view a) → is_made_with n d ≡ true →
     is_writing d ≡ true → ⊥
 gone_unwritten n d a a' does gone its so =
     let w = writer d a a' does so in
-    not_holders n (said a) w.numbers gone w.holds (sym (w.made n) ∙ its)
+    not_holders n (view a) w.numbers gone w.holds (sym (w.made n) ∙ its)
 
 same_kind : (k j : Kind) → phase.Apart k ≡ phase.Apart j → k ≡ j
 same_kind k j same = cc
 
 module _ (g : Handed) (b : BrokenInList g) where
   -- the area is apart, with this list and this broken pair
-  record Fixed (w : Work) : Type 0 where
+  record Fixed (w : View) : Type 0 where
     apart : w.phase ≡ phase.Apart b.kind
     pairs : w.pairs ≡ b.pairs
     index : broken_index w ≡ b.index
 
   abbrev FixedIn : Area → Type 0
-  FixedIn a = Fixed (said a)
+  FixedIn a = Fixed (view a)
 
   still_on : (n : Numbers) (d : Call) (a a' : Area) → Effect d a a' → Standing n FixedIn a → Standing n FixedIn a'
   still_on n d a a' e = stands_on n FixedIn FixedIn (λ k fixed. subst FixedIn (sym k.same) fixed) stepped parted e
@@ -90,7 +90,7 @@ module _ (g : Handed) (b : BrokenInList g) where
 
   -- the same document of the same schemas, list and pair
   moved :
-      (h : Handed) (k : Kind) (w : Work) (v : List Listed) (t : Tree) → Same g h → w.phase ≡ phase.Apart k → Fixed w →
+      (h : Handed) (k : Kind) (w : View) (v : List Listed) (t : Tree) → Same g h → w.phase ≡ phase.Apart k → Fixed w →
       DocumentOf (first_automaton h) (second_automaton h) k w.pairs (broken_index w) v t →
       DocumentOf (first_automaton g) (second_automaton g) b.kind b.pairs b.index v t
   moved h k w v t same apart fixed d =
@@ -106,7 +106,7 @@ module _ (g : Handed) (b : BrokenInList g) where
       SymbolsWritten b.way o size o'
   fixed_trail m o size o' a a' does fixed =
       let t = does.0 in
-      let there : Trail b.pairs b.index t.0 = subst (λ (j : ℕ). Trail b.pairs j t.0) fixed.index (subst (λ (es : List Listed). Trail es (broken_index (said a)) t.0) fixed.pairs t.1) in
+      let there : Trail b.pairs b.index t.0 = subst (λ (j : ℕ). Trail b.pairs j t.0) fixed.index (subst (λ (es : List Listed). Trail es (broken_index (view a)) t.0) fixed.pairs t.1) in
       let same : t.0 ≡ symbols_of b.way = one_trail b.pairs b.index t.0 (symbols_of b.way) there (way_trail b.pairs b.index b.way b.leads) in
       record { answer = t.2.1 ∙ ap length same ∙ length-map b.way (λ (e : Listed). e.symbol); bytes = t.2.2 ∙ ap (overwritten o 0) same }
 
@@ -121,7 +121,7 @@ module _ (g : Handed) (b : BrokenInList g) where
       let A = first_automaton g in
       let B = second_automaton g in
       let d = answer.1.0 in
-      let its = moved h d.document.0 (said a) d.way d.tree same d.document.1 fixed d.document.2 in
+      let its = moved h d.document.0 (view a) d.way d.tree same d.document.1 fixed d.document.2 in
       let here = one_way b.pairs b.index d.way b.way its.leads b.leads in
       let along : DocumentOf A B b.kind b.pairs b.index b.way d.tree = subst (λ (v : List Listed). DocumentOf A B b.kind b.pairs b.index v d.tree) here its in
       let told = built_tells A B b.kind 0 0 b.way d.tree along.built in
@@ -165,7 +165,7 @@ module _ (g : Handed) (n : Numbers) (b : BrokenInList g) where
       record { trails = (here.trail, rest.trails); documents = (here.document, rest.documents); still = rest.still }
 
   -- that is what it has written
-  wrote_all : (cs : List Call) (a now : Area) → Runs cs a now → Held n (said a) → FixedIn g b a → WroteBy g n cs now
+  wrote_all : (cs : List Call) (a now : Area) → Runs cs a now → Held n (view a) → FixedIn g b a → WroteBy g n cs now
   wrote_all cs a now runs held fixed =
       let written = all_written cs a now runs (inl (held, fixed)) in
       record {
@@ -191,13 +191,13 @@ broken_in g a k grown apart = (
     way = way.0;
     leads = way.1;
     live = subst (λ (v : List ℕ). LivePath (first_automaton g) 0 v last.pair.first) along reached.2;
-    beside = subst (λ (v : List ℕ). Path (second_automaton g) 0 v last.pair.second) along reached.3;
+    beside = subst (λ (v : List ℕ). StatePath (second_automaton g) 0 v last.pair.second) along reached.3;
   },
   record { apart = apart; pairs = refl; index = last_index (first_automaton g) (second_automaton g) w k last },
 )
   where
-    w : Work
-    w = said a
+    w : View
+    w = view a
 
     i : ℕ
     i = w.examined - 1
@@ -208,7 +208,7 @@ broken_in g a k grown apart = (
     way : (path : List Listed) × Way w.pairs i path
     way = every_way a.pairs i (slice_get_within w.pairs i last.pair last.at)
 
-    reached : (v : List ℕ) × Trail w.pairs i v × LivePath (first_automaton g) 0 v last.pair.first × Path (second_automaton g) 0 v last.pair.second
+    reached : (v : List ℕ) × Trail w.pairs i v × LivePath (first_automaton g) 0 v last.pair.first × StatePath (second_automaton g) 0 v last.pair.second
     reached = grown.reached i last.pair last.at
 
     along : reached.0 ≡ symbols_of way.0
@@ -225,7 +225,7 @@ module _ (g : Handed) (n : Numbers) where
 
   -- from an area on that is apart
   wrote_from :
-      (cs : List Call) (a now : Area) (k : Kind) → Runs cs a now → Held n (said a) → GrownFor g a →
+      (cs : List Call) (a now : Area) (k : Kind) → Runs cs a now → Held n (view a) → GrownFor g a →
       a.phase ≡ phase.Apart k → WroteBy g n cs now
   wrote_from cs a now k runs held grown apart =
       let found = broken_in g a k grown apart in
@@ -233,7 +233,7 @@ module _ (g : Handed) (n : Numbers) where
 
   -- where it has ended it writes no more
   gone_none :
-      (cs : List Call) (a now : Area) → Runs cs a now → Gone n (said a) →
+      (cs : List Call) (a now : Area) → Runs cs a now → Gone n (view a) →
       some_own n is_writing cs ≡ true → ⊥
   gone_none [] a now runs gone so = false≢true so
   gone_none (d ∷ cs) a now runs gone so =

@@ -11,8 +11,8 @@ use Rattle.compare.specs.declared.claim.Numbers.{Numbers}
 use Rattle.compare.specs.declared.conclude.Concluded.{Concluded}
 use Rattle.compare.specs.declared.event.Event.TheVariants.{Conclude}
 use Rattle.compare.specs.Concluding.{claim_refusal, Conclusion}
-use Rattle.compare.specs.Strangers.{is_holder}
-use Rattle.compare.specs.Work.{said}
+use Rattle.compare.specs.NotHolder.{is_holder}
+use Rattle.compare.specs.View.{view}
 use Rattle.document.specs.declared.document.TheConstants.{LEVELS}
 use Rattle.history.specs.Calls.{Handed, Same, Call, document, Does, Runs, is_made_with, some_own, is_beginning, Starts, is_ousting, is_conclusion, is_parting, is_giving_up, granted, StepsOver}
 
@@ -49,7 +49,7 @@ module _ {a : Area} (c : Comparison a) where
 
   -- its claim is the holder
   abbrev pub IsHolder : Type 0
-  IsHolder = is_holder (said c.now) c.claim ≡ true
+  IsHolder = is_holder (view c.now) c.claim ≡ true
 
   -- neither ousted nor given up
   pub record NeitherOustedNorGivenUp : Type 0 where
@@ -63,7 +63,7 @@ module _ {a : Area} (c : Comparison a) where
 
   -- its conclude has been accepted, or would be now
   abbrev pub HasVerdict : Type 0
-  HasVerdict = (own_call is_conclusion ≡ true) ⊎ (claim_refusal (said c.now) c.claim Conclude ≡ None)
+  HasVerdict = (own_call is_conclusion ≡ true) ⊎ (claim_refusal (view c.now) c.claim Conclude ≡ None)
 
   -- its conclude is accepted now, with this conclusion
   pub record ConcludesNow (v : Concluded) : Type 0 where

@@ -9,7 +9,7 @@ use Rattle.compare.specs.declared.claim.Numbers.{Numbers}
 use Rattle.compare.specs.declared.conclude.Concluded.TheVariants as concluded
 use Rattle.compare.specs.declared.phase.Kind.TheVariants.{Content}
 use Rattle.compare.specs.declared.step.TheConstants.{MOST_STEPS}
-use Rattle.compare.specs.Work.{said, free}
+use Rattle.compare.specs.View.{view, free}
 use Rattle.document.specs.declared.document.TheConstants.{LEVELS}
 use Rattle.history.specs.Calls.{Handed, Call, take_up, oust, step, conclude, trail, document, give_up, Runs}
 use Rattle.history.specs.Marked.{zero_alone, U, V}
@@ -52,4 +52,4 @@ example =
 
 -- the example is a history of area 7, as it is when made
 pub record ExampleRuns : Type 0 where
-  pub runs : (a : Area) → said a ≡ free 7 0 → (last : Area) × Runs example a last
+  pub runs : (a : Area) → view a ≡ free 7 0 → (last : Area) × Runs example a last

@@ -17,10 +17,10 @@ use Rattle.compare.specs.declared.pairs.Listed.{Listed}
 use Rattle.compare.specs.declared.phase.Kind.{Kind}
 use Rattle.compare.specs.declared.phase.Phase.TheVariants as phase
 use Rattle.compare.specs.Breaking.{Broken, ToldApart}
-use Rattle.compare.specs.Growing.{Path}
+use Rattle.compare.specs.Invariant.{StatePath}
 use Rattle.compare.specs.Trailing.{broken_index}
 use Rattle.compare.specs.Pairs.{start}
-use Rattle.compare.specs.Work.{said, held_by}
+use Rattle.compare.specs.View.{view, held_by}
 use Rattle.document.specs.Documents.{Way, symbols_of, DocumentOf}
 use Rattle.history.specs.Calls.{Handed, first_automaton, second_automaton, Same, Call, take_up, oust, step, conclude, trail, document, give_up, same_numbers, is_inclusion, is_writing, told}
 use Rattle.history.specs.Comparisons.{Comparison, own_call, StepsOverItsOwn, GrantedAllPairs, IsHolder, NeitherOustedNorGivenUp, ApartAndHolder, HasVerdict, ConcludesNow, DocumentRefused, AnotherBegan, OwnNow}
@@ -46,7 +46,7 @@ pub record ReachedBroken (A B : Automaton) (k : Kind) : Type 0 where
   pub first : ℕ
   pub second : ℕ
   pub live : LivePath A 0 word first
-  pub beside : Path B 0 word second
+  pub beside : StatePath B 0 word second
   pub broken : Broken A B k first second
 
 -- a broken pair is reached of the kind that an apart tells; nothing is said of included
@@ -85,7 +85,7 @@ pub record BrokenInList (g : Handed) : Type 0 where
   -- by symbols that are live in the first automaton
   pub live : LivePath (first_automaton g) 0 (symbols_of way) entry.first
   -- and lead in the second too
-  pub beside : Path (second_automaton g) 0 (symbols_of way) entry.second
+  pub beside : StatePath (second_automaton g) 0 (symbols_of way) entry.second
 
 -- the bytes of a tree stand at the output's front, and so many were answered: it is built along the way
 -- to the broken pair, and accepted by the first automaton alone
@@ -118,11 +118,11 @@ pub record WroteBy (g : Handed) (n : Numbers) (calls : List Call) (now : Area) :
   -- each accepted document call of it that was handed its schemas wrote the tree along that way
   pub documents : AllByRecursion (WritesDocument n g found) calls
   -- while its claim is the holder, the area is apart by that kind
-  pub apart : held_by (said now) n.serial ≡ true → (said now).phase ≡ phase.Apart found.kind
+  pub apart : held_by (view now) n.serial ≡ true → (view now).phase ≡ phase.Apart found.kind
   -- and has these pairs
-  pub listed : held_by (said now) n.serial ≡ true → (said now).pairs ≡ found.pairs
+  pub listed : held_by (view now) n.serial ≡ true → (view now).pairs ≡ found.pairs
   -- and this broken one
-  pub breaks : held_by (said now) n.serial ≡ true → broken_index (said now) ≡ found.index
+  pub breaks : held_by (view now) n.serial ≡ true → broken_index (view now) ≡ found.index
 
 -- what a comparison has written
 abbrev pub Wrote : {a : Area} → Comparison a → Type 0
@@ -158,7 +158,7 @@ pub record EveryHistory (a : Area) : Type 0 where
   -- tells them apart
   pub written : (c : Comparison a) → StepsOverItsOwn c → own_call c is_writing ≡ true → Wrote c
   -- concluded apart, and as long as its claim is the holder, the area is apart
-  pub apart : (c : Comparison a) → ApartAndHolder c → (k : Kind) × ((said c.now).phase ≡ phase.Apart k)
+  pub apart : (c : Comparison a) → ApartAndHolder c → (k : Kind) × ((view c.now).phase ≡ phase.Apart k)
   -- and where its own steps were handed its schemas, a document of them is refused for want of room
   -- alone
   pub documented :

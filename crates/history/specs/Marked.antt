@@ -21,7 +21,7 @@ use Rattle.compare.specs.declared.phase.Verdict.TheVariants.{Included, Apart}
 use Rattle.compare.specs.declared.step.TheConstants.{MOST_STEPS}
 use Rattle.compare.specs.Stepping.{Stepped}
 use Rattle.compare.specs.Pairs.{start}
-use Rattle.compare.specs.Work.{Work, begun}
+use Rattle.compare.specs.View.{View, begun}
 use Rattle.document.specs.Documents.{DocumentOf}
 
 -- the keyword domain {0}, of each schema below
@@ -46,7 +46,7 @@ over_zero T = automaton T zero_alone
 
 -- a comparison of the two schemas, begun in the first area and stepped as far as one step goes,
 -- comes to the second
-pub record Compares (S T : Tables) (w w' : Work) : Type 0 where
+pub record Compares (S T : Tables) (w w' : View) : Type 0 where
   pub live : Bool
   pub decides : Decides live (Live (over_zero S) 0)
   pub stepped : Stepped (over_zero S) (over_zero T) MOST_STEPS (begun w S T live) w'
@@ -54,9 +54,9 @@ pub record Compares (S T : Tables) (w w' : Work) : Type 0 where
 -- such a comparison, begun anywhere, comes to something, and to nothing but the verdict, with so
 -- many pairs examined
 pub record ComesTo (S T : Tables) (v : Verdict) (n : ℕ) : Type 0 where
-  pub some : (w : Work) → (w' : Work) × Compares S T w w'
-  pub verdict : (w w' : Work) → Compares S T w w' → w'.phase ≡ Ready v
-  pub count : (w w' : Work) → Compares S T w w' → w'.examined ≡ n
+  pub some : (w : View) → (w' : View) × Compares S T w w'
+  pub verdict : (w w' : View) → Compares S T w w' → w'.phase ≡ Ready v
+  pub count : (w w' : View) → Compares S T w w' → w'.examined ≡ n
 
 -- the bytes are those of the document for the pair (0, 0), broken in content
 pub record DocumentBytes (S T : Tables) (bytes : List ℕ) : Type 0 where

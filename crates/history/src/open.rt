@@ -1,6 +1,6 @@
 //! Making an area.
 ghost use Rattle.std.specs.Prelude.{◌≡◌};
-ghost use Rattle.compare.specs.Work.{said, free};
+ghost use Rattle.compare.specs.View.{view, free};
 ghost use Rattle.history.specs.Opening.{OpenLaws};
 
 use compare::area::{Area, free_area};
@@ -8,7 +8,7 @@ use compare::area::{Area, free_area};
 /// A free area with that number, its serial 0.
 #[tactic(auto, using(crate::proofs::Histories::every_history, crate::proofs::Example::example_runs, crate::proofs::Marked::marked_cases))]
 pub fn open(number: u32) -> Area
-    ensures fresh { said result ≡ free number 0 }
+    ensures fresh { view result ≡ free number 0 }
     ensures laws { OpenLaws result }
 {
     free_area(number)

@@ -6,7 +6,7 @@ use Rattle.codec.specs.Encoding.{tree_bytes}
 use Rattle.schema.specs.declared.tested.Tested.{Tested}
 use Rattle.schema.specs.Tables.{automaton_of}
 use Rattle.compare.specs.Listing.{entries_of}
-use Rattle.compare.specs.Work.{said}
+use Rattle.compare.specs.View.{view}
 use Rattle.compare.specs.Writing.{BrokenOf}
 use Rattle.compare.proofs.Views.{kept_of, many_of}
 use Rattle.document.specs.Marks.{Climbed}
@@ -51,7 +51,7 @@ returns-then-size-gt-LONGEST g c = λ counts room levels.
     let climb = subst (λ (o : Option ℕ). Climbed A' B (entries_of b.pairs.now) b.kind b.index o c.climb.new.levels.entries) (ok_there c.climb.result c.refusal-none.result c.in_ok-size.size (sym c.in_ok-size.was ∙ c.ok_or-2.ensures.value)) climbed in
     let way = climb.0 in
     let t = climb.1 in
-    let found : Found A B (said a) = record { way = way; tree = t; document = found_in A A' B a b same of way t climb.2 } in
+    let found : Found A B (view a) = record { way = way; tree = t; document = found_in A A' B a b same of way t climb.2 } in
     let long : (length c.args.output.now < needed t) ⊎ (needed t ≡ 65537) = elim c.then-size-gt-LONGEST.branch [
       | then-size-gt-LONGEST-via-then-size-gt-LONGEST w ↦ inr (omega (arith, climb.3, w.if-size-gt-LONGEST.true))
       | then-size-gt-LONGEST-via-else-size-gt-LONGEST+then-output-size w ↦ inl (omega (arith, climb.3, w.if-output-size.true))
@@ -74,7 +74,7 @@ returns-in_err-ok_or g c = λ counts room levels.
     let climb = subst (λ (o : Option ℕ). Climbed A' B (entries_of b.pairs.now) b.kind b.index o c.climb.new.levels.entries) (ok_there c.climb.result c.refusal-none.result c.in_ok-size.size (sym c.in_ok-size.was ∙ c.ok_or-2.ensures.value)) climbed in
     let way = climb.0 in
     let t = climb.1 in
-    let found : Found A B (said a) = record { way = way; tree = t; document = found_in A A' B a b same of way t climb.2 } in
+    let found : Found A B (view a) = record { way = way; tree = t; document = found_in A A' B a b same of way t climb.2 } in
     let few = way_levels A' B b.kind (entries_of b.pairs.now) b.index way t c.climb.new.levels.entries climb.2 climb.4 in
     let free : 64 ≤ length c.climb.new.levels.free = omega (arith, c.climb.ensures.slots, ap length c.new-levels.ensures.empty, ap length c.new-levels.ensures.over, few, many_of b.pairs.now, (kept_of b.pairs.now).short) in
     let wrote = c.write.ensures.written ready (omega arith) free (omega arith) way t climb.2 climb.4 in
@@ -98,7 +98,7 @@ returns g c = λ counts room levels.
     let climb = subst (λ (o : Option ℕ). Climbed A' B (entries_of b.pairs.now) b.kind b.index o c.climb.new.levels.entries) (ok_there c.climb.result c.refusal-none.result c.in_ok-size.size (sym c.in_ok-size.was ∙ c.ok_or-2.ensures.value)) climbed in
     let way = climb.0 in
     let t = climb.1 in
-    let found : Found A B (said a) = record { way = way; tree = t; document = found_in A A' B a b same of way t climb.2 } in
+    let found : Found A B (view a) = record { way = way; tree = t; document = found_in A A' B a b same of way t climb.2 } in
     let few = way_levels A' B b.kind (entries_of b.pairs.now) b.index way t c.climb.new.levels.entries climb.2 climb.4 in
     let free : 64 ≤ length c.climb.new.levels.free = omega (arith, c.climb.ensures.slots, ap length c.new-levels.ensures.empty, ap length c.new-levels.ensures.over, few, many_of b.pairs.now, (kept_of b.pairs.now).short) in
     let wrote = c.write.ensures.written ready (omega arith) free (omega arith) way t climb.2 climb.4 in
