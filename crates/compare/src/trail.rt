@@ -4,7 +4,7 @@ ghost use Rattle.compare.specs.Claims.{less_claim, ComesBack};
 ghost use Rattle.compare.specs.Laws.{TrailLaws};
 ghost use Rattle.compare.specs.Listing.{entries_of};
 ghost use Rattle.compare.specs.Trailing.{Trail, Trailing, TrailWritten, led_to, broken_index};
-ghost use Rattle.compare.specs.Work.{said};
+ghost use Rattle.compare.specs.View.{view};
 
 use crate::area::Area;
 use crate::claim::{ConcludedApart, Lease};
@@ -25,9 +25,7 @@ pub fn led_to(pairs: &Pairs, index: usize) -> Option<Listed>
 /// How many symbols the trail of a listed pair has.
 fn trail_length(pairs: &Pairs, index: usize) -> usize
     ensures most { result ≤ index }
-    ensures count {
-        (w : List ℕ) → Trail (entries_of pairs.now) index w → result ≡ length w
-    }
+    ensures count { (w : List ℕ) → Trail (entries_of pairs.now) index w → result ≡ length w }
 {
     match led_to(pairs, index) {
         Some(pair) => trail_length(pairs, pair.parent as usize) + 1,
@@ -55,7 +53,7 @@ fn write_trail(pairs: &Pairs, index: usize, output: &mut [u8]) -> usize
 
 /// The index of the broken pair: the one that was examined last.
 pub(crate) fn broken_index(area: &Area) -> usize
-    ensures { result ≡ broken_index (said area.now) }
+    ensures { result ≡ broken_index (view area.now) }
 {
     let last = area.examined.saturating_sub(1) as usize;
     if last < area.pairs.length() { last } else { 0 }
