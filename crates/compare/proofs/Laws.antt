@@ -18,19 +18,19 @@ pub pair_laws : PairLaws
 pair_laws = record { carries = closed_carries; tells = broken_tells; onward = onward_tells; next = unbroken_onward }
 
 pub take_laws : BeginLaws Take
-take_laws = record { grown = invariant_begins; one = one_beginning; table = takes_as_decided }
+take_laws = record { invariant = invariant_begins; one = one_beginning; table = takes_as_decided }
 
 pub oust_laws : BeginLaws Oust
-oust_laws = record { grown = invariant_begins; one = one_beginning; table = ousts_as_decided }
+oust_laws = record { invariant = invariant_begins; one = one_beginning; table = ousts_as_decided }
 
 pub step_laws : StepLaws
-step_laws = record { grown = invariant_steps; same = invariant_same; stranger = step_by_not_holder; one = one_stepping; few = few_pairs; table = steps_as_decided }
+step_laws = record { invariant = invariant_steps; same = invariant_same; not_holder = step_by_not_holder; one = one_stepping; few = few_pairs; table = steps_as_decided }
 
 pub conclude_laws : ConcludeLaws
-conclude_laws = record { grown = invariant_concludes; included = included_carries; apart = apart_tells; stranger = conclusion_by_not_holder; one = one_conclusion; table = concludes_as_decided; early = conclusion_early }
+conclude_laws = record { invariant = invariant_concludes; included = included_carries; apart = apart_tells; not_holder = conclusion_by_not_holder; one = one_conclusion; table = concludes_as_decided; early = conclusion_early }
 
 pub trail_laws : TrailLaws
-trail_laws = record { one = one_trail; every = every_trail; stranger = trail_by_not_holder; answer = one_trailing; table = trails_as_decided; early = trail_not_early }
+trail_laws = record { one = one_trail; every = every_trail; not_holder = trail_by_not_holder; answer = one_trailing; table = trails_as_decided; early = trail_not_early }
 
 pub give_up_laws : GiveUpLaws
-give_up_laws = record { stranger = giving_up_by_not_holder; one = one_giving_up; table = gives_up_as_decided }
+give_up_laws = record { not_holder = giving_up_by_not_holder; one = one_giving_up; table = gives_up_as_decided }

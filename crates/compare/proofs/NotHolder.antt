@@ -61,7 +61,7 @@ step_by_not_holder T U sets others claim n slots a r a' is other = by r is
     by (Ok answer) is = absurd (some_found (either_fault T U) (other_symbols w T U) (refusal_of_not_holder w claim) (sym same ∙ is.0))
     by (Err e) is = (e, refl, sym same ∙ is.0, is.1)
 
--- the stranger's refusal and the claim, which is handed back
+-- the refusal and the claim, which is handed back
 refused : {X S : Type 0} (w : View) (n : Numbers) (claim : Lease S) (o : Option Refusal) (e : Refusal × Lease S) → o ≡ Some (refusal_of_not_holder w n) → o ≡ Some e.0 → e.1 ≡ claim → ◌≡◌ {A = Result X (Refusal × Lease S)} (Err e) (Err (refusal_of_not_holder w n, claim))
 refused {X} {S} w n claim o e so is back = let first : e.0 ≡ refusal_of_not_holder w n = same_Some _ _ (sym is ∙ so) in λ i. Err (first i, back i)
 

@@ -82,7 +82,7 @@ module _ (A B : Automaton) where
       let most : g.taken ≤ n = g.few in
       omega (arith, all, most, low)
 
-  one_stepped : (n : ℕ) (w v u : View) → Stepped A B n w v → Stepped A B n w u → ButForKind A B v u
+  pub one_stepped : (n : ℕ) (w v u : View) → Stepped A B n w v → Stepped A B n w u → ButForKind A B v u
   one_stepped n w v u f g =
       ⊎_elim
       (λ same. one_turns f.taken w v u f.turns (subst (λ (k : ℕ). Turns A B k w u) (sym same) g.turns))

@@ -25,25 +25,25 @@ pub record PairLaws : Type 0 where
 
 -- of taking, and of ousting
 pub record BeginLaws (e : Event) : Type 0 where
-  pub grown : InvariantBegins
+  pub invariant : InvariantBegins
   pub one : OneBeginning
   pub table : BeginsAsDecided e
 
 -- of stepping
 pub record StepLaws : Type 0 where
-  pub grown : InvariantSteps
+  pub invariant : InvariantSteps
   pub same : InvariantSame
-  pub stranger : StepByNotHolder
+  pub not_holder : StepByNotHolder
   pub one : OneStepping
   pub few : FewPairs
   pub table : StepsAsDecided
 
 -- of concluding
 pub record ConcludeLaws : Type 0 where
-  pub grown : InvariantConcludes
+  pub invariant : InvariantConcludes
   pub included : IncludedCarries
   pub apart : ApartTells
-  pub stranger : ConclusionByNotHolder
+  pub not_holder : ConclusionByNotHolder
   pub one : OneConclusion
   pub table : ConcludesAsDecided
   pub early : ConclusionEarly
@@ -52,13 +52,13 @@ pub record ConcludeLaws : Type 0 where
 pub record TrailLaws : Type 0 where
   pub one : OneTrail
   pub every : EveryTrail
-  pub stranger : TrailByNotHolder
+  pub not_holder : TrailByNotHolder
   pub answer : OneTrailing
   pub table : TrailsAsDecided
   pub early : TrailNotEarly
 
 -- of giving up
 pub record GiveUpLaws : Type 0 where
-  pub stranger : GivingUpByNotHolder
+  pub not_holder : GivingUpByNotHolder
   pub one : OneGivingUp
   pub table : GivesUpAsDecided

@@ -25,8 +25,8 @@ is_holder w n = n.area == w.number && held_by w n.serial
 abbrev pub refusal_of_not_holder : View → Numbers → Refusal
 refusal_of_not_holder w n = record { fault = cond (n.area == w.number) Ousted Foreign; place = w.serial }
 
--- a step is refused: by a fault of the schemas, by `symbols`, or as a stranger's; the area stays as
--- it was
+-- a step is refused: by a fault of the schemas, by `symbols`, or as what is not the holder's; the
+-- area stays as it was
 unfoldable pub StepByNotHolder : Type 0
 StepByNotHolder =
     (T U : Tables) (sets others : List (ℕ → Bool)) (claim : Numbers) (n slots : ℕ)
