@@ -13,7 +13,6 @@ use crate::pairs::{Listed, Pairs};
 use refusal::fault::{Fault, Refusal};
 
 /// The pair at an index, where the pair that led to it stands before it.
-// As `found_from` of the search, over pairs of another type: two calls of the library's each.
 pub fn led_to(pairs: &Pairs, index: usize) -> Option<Listed>
     ensures { result ≡ led_to (entries_of pairs.now) index }
 {
