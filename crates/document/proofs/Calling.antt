@@ -26,14 +26,14 @@ use Rattle.compare.specs.Work.{Work, said}
 use Rattle.compare.specs.Writing.{write_kept_from, BrokenOf}
 use Rattle.compare.proofs.Allowing.{fails}
 use Rattle.compare.proofs.Tests.{found_early}
-use Rattle.document.specs.declared.level.Spot.{Spot}
-use Rattle.document.specs.declared.samples.Samples.{Samples as Kept}
-use Rattle.document.specs.declared.sheet.Sheet.{Sheet}
+use Rattle.samples.specs.declared.node.NodeKey.{NodeKey}
+use Rattle.samples.specs.declared.samples.Samples.{Samples as Kept}
+use Rattle.samples.specs.declared.output.Output.{Output}
 use Rattle.document.specs.Documents.{DocumentOf}
 use Rattle.document.specs.Nodes.{Ready}
-use Rattle.document.specs.Sampling.{Leaves}
-use Rattle.document.specs.Seeds.{HasSamples}
-use Rattle.document.specs.Sheets.{Added}
+use Rattle.samples.specs.Writing.{Leaves}
+use Rattle.samples.specs.Kept.{HasSamples}
+use Rattle.samples.specs.Outputs.{Added}
 use Rattle.document.specs.Writing.{kept_from, short_levels, DocumentIn, Documenting, NoDocument}
 
 -- what is said of tested schemas is said of those that were handed over
@@ -103,11 +103,11 @@ ready_of {D} holds first second s a b of over none has =
     }
 
 -- bytes were written
-pub added_at : (bytes : List ℕ) (entries : List (Level Spot)) (before after : Sheet) (r : Option (Unit {0})) (levels : Stack (Level Spot)) (u : Unit {0}) → Leaves bytes entries before r levels after → r ≡ Some u → Added bytes before after
+pub added_at : (bytes : List ℕ) (entries : List (Level NodeKey)) (before after : Output) (r : Option (Unit {0})) (levels : Stack (Level NodeKey)) (u : Unit {0}) → Leaves bytes entries before r levels after → r ≡ Some u → Added bytes before after
 added_at bytes entries before after (Some v) levels u wrote is = wrote.0
 added_at bytes entries before after None levels u short is = absurd (none-some _ is)
 
 -- or they had no room
-pub crowded_at : (bytes : List ℕ) (entries : List (Level Spot)) (before after : Sheet) (r : Option (Unit {0})) (levels : Stack (Level Spot)) → Leaves bytes entries before r levels after → r ≡ None → length before.output.now < before.place + length bytes
+pub crowded_at : (bytes : List ℕ) (entries : List (Level NodeKey)) (before after : Output) (r : Option (Unit {0})) (levels : Stack (Level NodeKey)) → Leaves bytes entries before r levels after → r ≡ None → length before.bytes.now < before.place + length bytes
 crowded_at bytes entries before after (Some v) levels wrote is = absurd (none-some _ (sym is))
 crowded_at bytes entries before after None levels short is = short

@@ -25,9 +25,9 @@ use Rattle.compare.specs.Work.{start}
 use Rattle.compare.proofs.Trails.{one_trail, trail_parent}
 use Rattle.document.specs.Documents.{Climbs, OnWay, LeadsTo, Built, HasDocument}
 use Rattle.document.specs.Forks.{joined}
-use Rattle.document.specs.Samples.{LowerSequence, SampleSequence, Sample}
-use Rattle.document.proofs.Growing.{LeadsLive, LeadsSampled, SampledChildren, gather, one_rank}
-use Rattle.document.proofs.Ranking.{LeadsLower}
+use Rattle.samples.specs.Samples.{LowerSequence, SampleSequence, Sample}
+use Rattle.samples.proofs.Growing.{LeadsLive, LeadsSampled, SampledChildren, gather, one_rank}
+use Rattle.samples.proofs.Ranking.{LeadsLower}
 use Rattle.document.proofs.Splitting.{end_with, fork_with, holds_none, joined_built, sides}
 use Rattle.document.proofs.Ways.{trail_way}
 

@@ -11,10 +11,10 @@ use Rattle.schema.proofs.Holding.{live_of_over, over_of_live}
 use Rattle.search.specs.Sequences.{First, Sought, Shortest}
 use Rattle.search.specs.Watching.{Watching, wanted}
 use Rattle.search.proofs.Orders.{first_alike}
-use Rattle.document.specs.declared.telling.Node.{Node}
+use Rattle.samples.specs.declared.node.Node.{Node}
 use Rattle.document.specs.Nodes.{Answered, LeastWith}
-use Rattle.document.specs.Samples.{SampleSequence}
-use Rattle.document.proofs.Growing.{sample_rank}
+use Rattle.samples.specs.Samples.{SampleSequence}
+use Rattle.samples.proofs.Growing.{sample_rank}
 
 -- the first of the live sequences that pass a test is the first of those with a property, where the test says which have it
 module _ (A : Automaton) (p : ℕ) (test : List ℕ → Bool) (P : List ℕ → Type 0) (says : (w : List ℕ) → Decides (test w) (P w)) where

@@ -7,24 +7,13 @@ use Rattle.codec.specs.Trees.{Tree, node, Children, child, word, many}
 use Rattle.schema.specs.Automata.{Automaton}
 use Rattle.compare.specs.declared.pairs.Listed.{Listed}
 use Rattle.document.specs.Forks.{Fork, joined, head, tail}
-use Rattle.document.specs.Seeds.{needed}
-use Rattle.document.proofs.Splitting.{joined_bytes, many_symbols}
+use Rattle.samples.specs.Kept.{needed}
+use Rattle.samples.proofs.Lengths.{length_three}
+use Rattle.document.proofs.Splitting.{joined_bytes}
 
 -- what was counted up to 65,537 may be added to a number and counted again
 pub capped_right : (a b : ℕ) → min (a + min b 65537) 65537 ≡ min (a + b) 65537
 capped_right a b = omega arith
-
--- the length of three lists joined
-length_three : (x y z : List ℕ) → length (x ++ (y ++ z)) ≡ length x + (length y + length z)
-length_three x y z = omega (arith, length-append x (y ++ z), length-append y z)
-
--- a tree's bytes are its value's, its child count's and its children's
-pub tree_length : (v : ℕ) (cs : Children) → length (tree_bytes (node v cs)) ≡ length (number_bytes v) + (length (number_bytes (length (word cs))) + length (children_bytes cs))
-tree_length v cs = length_three (number_bytes v) (number_bytes (many cs)) (children_bytes cs) ∙ ap (λ (n : ℕ). length (number_bytes v) + (length (number_bytes n) + length (children_bytes cs))) (many_symbols cs)
-
--- children's bytes are the first one's symbol's and tree's, and those of the others
-pub child_length : (a : ℕ) (t : Tree) (cs : Children) → length (children_bytes (child a t cs)) ≡ length (number_bytes a) + (length (tree_bytes t) + length (children_bytes cs))
-child_length a t cs = length_three (number_bytes a) (tree_bytes t) (children_bytes cs)
 
 module _ (A B : Automaton) {p q : ℕ} {e : Listed} (f : Fork A B p q e) where
   -- the bytes of a fork but for the part: its value's, its child count's, those of the children before, of the symbol, and of the children

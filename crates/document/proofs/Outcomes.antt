@@ -16,7 +16,7 @@ use Rattle.compare.specs.declared.event.Event.TheVariants.{Write}
 use Rattle.compare.specs.Refusals.{where_found, other_symbols, of_another, not_held, other_counts, phase_refuses, short_scratch}
 use Rattle.compare.specs.Strangers.{is_holder, stranger}
 use Rattle.compare.specs.Work.{Work, said, held_by}
-use Rattle.document.specs.Seeds.{needed}
+use Rattle.samples.specs.Kept.{needed}
 use Rattle.document.specs.Writing.{short_levels, early_refusal, Found, DocumentAnswer, OneDocumenting, DocumentOfStranger}
 use Rattle.document.proofs.Unique.{found_or_not, one_found}
 

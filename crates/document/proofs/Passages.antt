@@ -15,23 +15,23 @@ use Rattle.search.proofs.Orders.{one_first}
 use Rattle.compare.specs.declared.pairs.Listed.{Listed}
 use Rattle.compare.specs.declared.phase.Kind.{Kind}
 use Rattle.compare.specs.declared.phase.Kind.TheVariants.{Value, Content}
-use Rattle.document.specs.declared.level.Spot.{Spot}
-use Rattle.document.specs.declared.sheet.Sheet.{Sheet}
+use Rattle.samples.specs.declared.node.NodeKey.{NodeKey}
+use Rattle.samples.specs.declared.output.Output.{Output}
 use Rattle.document.specs.declared.telling.Telling.{Telling}
 use Rattle.document.specs.declared.write.Passage.{Passage}
 use Rattle.document.specs.Documents.{AtEnd}
 use Rattle.document.specs.Forks.{Fork, head}
 use Rattle.document.specs.Nodes.{Ready, first_automaton}
 use Rattle.document.specs.Passing.{passage_of}
-use Rattle.document.specs.Samples.{Samples}
-use Rattle.document.specs.Sampling.{Leaves}
-use Rattle.document.specs.Sheets.{Added, Adds}
-use Rattle.document.proofs.Growing.{Inside}
-use Rattle.document.proofs.Heights.{samples_height}
+use Rattle.samples.specs.Samples.{Samples}
+use Rattle.samples.specs.Writing.{Leaves}
+use Rattle.samples.specs.Outputs.{Added, Adds}
+use Rattle.samples.proofs.Growing.{Inside}
+use Rattle.samples.proofs.Heights.{samples_height}
 use Rattle.document.proofs.Places.{fork_sides}
-use Rattle.document.proofs.Sheets.{added_more, adds_more, crowded_more, crowded_front}
-use Rattle.document.proofs.Sizing.{kept_seeded}
-use Rattle.document.proofs.Unique.{one_smallest}
+use Rattle.samples.proofs.Outputs.{added_more, adds_more, crowded_more, crowded_front}
+use Rattle.samples.proofs.Sizing.{kept_rooted}
+use Rattle.samples.proofs.Unique.{one_smallest}
 
 module _ {D : Type 0} (holds : D → ℕ → Bool) (t : Telling D) where
   -- the first schema leads to its own states only
@@ -43,10 +43,10 @@ module _ {D : Type 0} (holds : D → ℕ → Bool) (t : Telling D) where
   children_fit ready p cs low s =
       let schema = t.samples.tested.now.measured.schema in
       let few : schema.states ≤ 64 = (sized (tables schema) t.samples.tested.now.measured.sized).states.to in
-      omega (arith, few, samples_height (first_automaton holds t) schema.states states_inside (kept_seeded (first_automaton holds t) schema.states t.samples.live t.samples.seeds t.samples.sizes ready.samples) p cs low s)
+      omega (arith, few, samples_height (first_automaton holds t) schema.states states_inside (kept_rooted (first_automaton holds t) schema.states t.samples.live t.samples.roots t.samples.sizes ready.samples) p cs low s)
 
 -- bytes added, with the levels as they are
-pub leaves_adds : (bytes : List ℕ) (entries : List (Level Spot)) (before after : Sheet) (r : Option (Unit {0})) (levels : Stack (Level Spot)) → Adds bytes before r after → levels.entries ≡ entries → Leaves bytes entries before r levels after
+pub leaves_adds : (bytes : List ℕ) (entries : List (Level NodeKey)) (before after : Output) (r : Option (Unit {0})) (levels : Stack (Level NodeKey)) → Adds bytes before r after → levels.entries ≡ entries → Leaves bytes entries before r levels after
 leaves_adds bytes entries before after (Some u) levels added same = (added, same)
 leaves_adds bytes entries before after None levels short same = short
 
@@ -72,17 +72,17 @@ module _ (A B : Automaton) (p q : ℕ) (e : Listed) (f : Fork A B p q e) where
         regroup : (v n cs a : List ℕ) → ((v ++ n) ++ cs) ++ a ≡ v ++ (n ++ (cs ++ a))
         regroup v n cs a = simp append_assoc
 
-    module _ (before first : Sheet) (begun : Added value_count before first) where
+    module _ (before first : Output) (begun : Added value_count before first) where
       -- they are written one behind the other
-      pub all_before : (second after : Sheet) (r : Option (Unit {0})) → Added (children_bytes f.before) first second → Adds (number_bytes s.symbol) second r after → Adds (head A B f) before r after
+      pub all_before : (second after : Output) (r : Option (Unit {0})) → Added (children_bytes f.before) first second → Adds (number_bytes s.symbol) second r after → Adds (head A B f) before r after
       all_before second after r children symbol =
           subst (λ (l : List ℕ). Adds l before r after) parts
           (adds_more (value_count ++ children_bytes f.before) (number_bytes s.symbol) before second (added_more value_count (children_bytes f.before) before first begun second children) r after symbol)
 
       -- or the children have no room
-      pub crowded_children : length first.output.now < first.place + length (children_bytes f.before) → length before.output.now < before.place + length (head A B f)
+      pub crowded_children : length first.bytes.now < first.place + length (children_bytes f.before) → length before.bytes.now < before.place + length (head A B f)
       crowded_children short =
-          subst (λ (l : List ℕ). length before.output.now < before.place + length l) parts
+          subst (λ (l : List ℕ). length before.bytes.now < before.place + length l) parts
           (crowded_front (value_count ++ children_bytes f.before) (number_bytes s.symbol) before (crowded_more value_count (children_bytes f.before) before first begun short))
 
 -- the value and the sequence of the node at the end are one

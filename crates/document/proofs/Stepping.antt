@@ -13,8 +13,9 @@ use Rattle.compare.specs.Trailing.{led_to}
 use Rattle.compare.proofs.Trails.{led_some}
 use Rattle.document.specs.Forks.{Fork, head, tail}
 use Rattle.document.specs.Marks.{LedFrom, StepsUp}
-use Rattle.document.specs.Seeds.{needed}
-use Rattle.document.proofs.Lengths.{tree_length, fork_length}
+use Rattle.samples.specs.Kept.{needed}
+use Rattle.samples.proofs.Lengths.{tree_length}
+use Rattle.document.proofs.Lengths.{fork_length}
 
 -- what a comparison with a number says of what is there
 pub same_number : (o : Option ℕ) (x : ℕ) (b : Bool) → b ≡ option_eq eqb o (Some x) → Decides b (o ≡ Some x)

@@ -15,14 +15,14 @@ use Rattle.search.proofs.Places.{nth_inside}
 use Rattle.compare.specs.declared.pairs.Listed.{Listed}
 use Rattle.compare.specs.declared.phase.Kind.{Kind}
 use Rattle.document.specs.declared.climb.Step.{Step}
-use Rattle.document.specs.declared.level.Spot.{Spot}
+use Rattle.samples.specs.declared.node.NodeKey.{NodeKey}
 use Rattle.document.specs.Climbing.{Above}
 use Rattle.document.specs.Documents.{AtEnd, Built, Climbs, DocumentOf}
 use Rattle.document.specs.Forks.{head, tail, joined}
 use Rattle.document.specs.Marks.{mark, MarksOf, StepsUp, EndsAt, Climbed}
 use Rattle.document.specs.Nodes.{Answered}
-use Rattle.document.specs.Seeds.{needed}
-use Rattle.document.proofs.Growing.{SampledChildren}
+use Rattle.samples.specs.Kept.{needed}
+use Rattle.samples.proofs.Growing.{SampledChildren}
 use Rattle.document.proofs.Lengths.{needed_joined, capped_right}
 use Rattle.document.proofs.Marks.{marks_long, marks_joined}
 use Rattle.document.proofs.Passing.{document_onward, document_splits, document_of}
@@ -51,7 +51,7 @@ module _ (A B : Automaton) (k : Kind) (es : List Listed) (i : ℕ) (x : Listed) 
 
 module _ (A B : Automaton) (k : Kind) (es : List Listed) (i : ℕ) where
   -- a point of the climb: the pair there, and what is built behind it
-  pub record Point (at size : ℕ) (levels : List (Level Spot)) : Type 0 where
+  pub record Point (at size : ℕ) (levels : List (Level NodeKey)) : Type 0 where
     pub pair : Listed
     pub there : slice_get es at ≡ Some pair
     pub way : List Listed
@@ -62,11 +62,11 @@ module _ (A B : Automaton) (k : Kind) (es : List Listed) (i : ℕ) where
     pub marked : MarksOf A B es levels (reverse way)
 
   -- it begins at the end
-  pub begins : (size : ℕ) (levels : List (Level Spot)) → EndsAt A B es k i (Some size) → levels ≡ [] → Point i size levels
-  begins size levels (x, t, there, built, bytes) none = record { pair = x; there = there; way = []; above = refl; part = t; built = built; bytes = bytes; marked = subst (λ (ls : List (Level Spot)). MarksOf A B es ls []) (sym none) tt }
+  pub begins : (size : ℕ) (levels : List (Level NodeKey)) → EndsAt A B es k i (Some size) → levels ≡ [] → Point i size levels
+  begins size levels (x, t, there, built, bytes) none = record { pair = x; there = there; way = []; above = refl; part = t; built = built; bytes = bytes; marked = subst (λ (ls : List (Level NodeKey)). MarksOf A B es ls []) (sym none) tt }
 
   -- and goes on by steps
-  pub goes_up : (at size : ℕ) (levels : List (Level Spot)) (s : Step) → Point at size levels → StepsUp A B es at (Some s) → Point s.at (min (size + s.size) 65537) (levels ++ mark at s.left ∷ [])
+  pub goes_up : (at size : ℕ) (levels : List (Level NodeKey)) (s : Step) → Point at size levels → StepsUp A B es at (Some s) → Point s.at (min (size + s.size) 65537) (levels ++ mark at s.left ∷ [])
   goes_up at size levels s p (e, x, led, f, up, left, bytes) =
       let same : p.pair ≡ e = same_Some _ _ (sym p.there ∙ led.there) in
       let built : Built A B k e.first e.second p.way p.part = subst (λ (y : Listed). Built A B k y.first y.second p.way p.part) same p.built in
@@ -85,7 +85,7 @@ module _ (A B : Automaton) (k : Kind) (es : List Listed) (i : ℕ) where
       }
 
   -- its levels are fewer than the pairs before it
-  pub levels_few : (at size : ℕ) (levels : List (Level Spot)) → Point at size levels → at + length levels ≤ i
+  pub levels_few : (at size : ℕ) (levels : List (Level NodeKey)) → Point at size levels → at + length levels ≤ i
   levels_few at size levels p = omega (arith, marks_long A B es levels (reverse p.way) p.marked, length-reverse p.way, above_short es at i p.way p.above)
 
   -- the broken pair of a document is listed
@@ -97,7 +97,7 @@ module _ (A B : Automaton) (k : Kind) (es : List Listed) (i : ℕ) where
       by (f ∷ back) c = (f, c.0)
 
   -- the levels of its way are fewer than the listed pairs
-  pub way_levels : (whole : List Listed) (t : Tree) (levels : List (Level Spot)) → DocumentOf A B k es i whole t → MarksOf A B es levels (reverse whole) → length levels < length es
+  pub way_levels : (whole : List Listed) (t : Tree) (levels : List (Level NodeKey)) → DocumentOf A B k es i whole t → MarksOf A B es levels (reverse whole) → length levels < length es
   way_levels whole t levels d marked =
       let x = broken_there whole t d in
       omega (arith, marks_long A B es levels (reverse whole) marked, length-reverse whole, way_short es i whole d.leads, slice_get_within es i x.0 x.1)
@@ -110,7 +110,7 @@ module _ (A B : Automaton) (k : Kind) (es : List Listed) (i : ℕ) where
       none x.0 part.0 x.1 part.1
 
   -- nor where no step goes on
-  pub no_way_up : (at size : ℕ) (levels : List (Level Spot)) → Point at size levels → 0 < at → StepsUp A B es at None → (whole : List Listed) (t : Tree) → DocumentOf A B k es i whole t → ⊥
+  pub no_way_up : (at size : ℕ) (levels : List (Level NodeKey)) → Point at size levels → 0 < at → StepsUp A B es at None → (whole : List Listed) (t : Tree) → DocumentOf A B k es i whole t → ⊥
   no_way_up at size levels p some none whole t d =
       let through = way_through es at i p.way whole d.leads p.above in
       by (reverse through.0) through.1
@@ -123,7 +123,7 @@ module _ (A B : Automaton) (k : Kind) (es : List Listed) (i : ℕ) where
           none e x.0 (record { there = c.0; before = c.1; parent = x.1 }) split.1.fork
 
   -- at the first pair it ends with the document, where that is the pair (0, 0)
-  pub arrives : (size : ℕ) (levels : List (Level Spot)) → (p : Point 0 size levels) → p.pair.first ≡ 0 → p.pair.second ≡ 0 → Climbed A B es k i (Some size) levels
+  pub arrives : (size : ℕ) (levels : List (Level NodeKey)) → (p : Point 0 size levels) → p.pair.first ≡ 0 → p.pair.second ≡ 0 → Climbed A B es k i (Some size) levels
   arrives size levels p first second = (
     p.way,
     p.part,
@@ -133,13 +133,13 @@ module _ (A B : Automaton) (k : Kind) (es : List Listed) (i : ℕ) where
   )
 
   -- and where it is not there is none
-  pub begins_elsewhere : (size : ℕ) (levels : List (Level Spot)) → (p : Point 0 size levels) → (p.pair.first ≡ 0 → p.pair.second ≡ 0 → ⊥) → (whole : List Listed) (t : Tree) → DocumentOf A B k es i whole t → ⊥
+  pub begins_elsewhere : (size : ℕ) (levels : List (Level NodeKey)) → (p : Point 0 size levels) → (p.pair.first ≡ 0 → p.pair.second ≡ 0 → ⊥) → (whole : List Listed) (t : Tree) → DocumentOf A B k es i whole t → ⊥
   begins_elsewhere size levels p elsewhere whole t d =
       let same : d.first ≡ p.pair = same_Some _ _ (sym d.listed ∙ p.there) in
       elsewhere (ap {B = ℕ} (λ (x : Listed). x.first) (sym same) ∙ d.starts.0) (ap {B = ℕ} (λ (x : Listed). x.second) (sym same) ∙ d.starts.1)
 
   -- so the test of the first pair decides
-  pub ends_at_first : (start : Listed) (b : Bool) (size : ℕ) (r : Option ℕ) (levels : List (Level Spot)) → slice_get es 0 ≡ Some start → Decides b ((start.first ≡ 0) × (start.second ≡ 0)) → Point 0 size levels → r ≡ then_some b size → Climbed A B es k i r levels
+  pub ends_at_first : (start : Listed) (b : Bool) (size : ℕ) (r : Option ℕ) (levels : List (Level NodeKey)) → slice_get es 0 ≡ Some start → Decides b ((start.first ≡ 0) × (start.second ≡ 0)) → Point 0 size levels → r ≡ then_some b size → Climbed A B es k i r levels
   ends_at_first start b size r levels at tells p is = subst (λ (o : Option ℕ). Climbed A B es k i o levels) (sym is) (by b tells)
     where
       same : start ≡ p.pair

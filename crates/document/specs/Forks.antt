@@ -10,7 +10,7 @@ use Rattle.search.specs.Watching.{Holds}
 use Rattle.compare.specs.declared.pairs.Listed.{Listed}
 use Rattle.compare.specs.declared.phase.Kind.{Kind}
 use Rattle.document.specs.Documents.{OnWay, LeadsTo, Built}
-use Rattle.document.specs.Samples.{Samples}
+use Rattle.samples.specs.Samples.{Samples}
 
 -- children, and others after them
 abbrev pub followed_by : Children → Children → Children

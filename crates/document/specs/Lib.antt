@@ -4,9 +4,4 @@ pub mod Forks
 pub mod Marks
 pub mod Nodes
 pub mod Passing
-pub mod Samples
-pub mod Sampling
-pub mod Seeds
-pub mod Sheets
-pub mod Words
 pub mod Writing

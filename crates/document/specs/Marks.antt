@@ -7,14 +7,14 @@ use Rattle.schema.specs.Automata.{Automaton}
 use Rattle.compare.specs.declared.pairs.Listed.{Listed}
 use Rattle.compare.specs.declared.phase.Kind.{Kind}
 use Rattle.document.specs.declared.climb.Step.{Step}
-use Rattle.document.specs.declared.level.Spot.{Spot}
-use Rattle.document.specs.declared.level.Spot.TheVariants.{Pair}
+use Rattle.samples.specs.declared.node.NodeKey.{NodeKey}
+use Rattle.samples.specs.declared.node.NodeKey.TheVariants.{Pair}
 use Rattle.document.specs.Documents.{Built, DocumentOf}
 use Rattle.document.specs.Forks.{Fork, head, tail}
-use Rattle.document.specs.Seeds.{needed}
+use Rattle.samples.specs.Kept.{needed}
 
 -- the level of the pair at a place of the list, behind which so many children follow at the node that it leaves
-abbrev pub mark : ℕ → ℕ → Level Spot
+abbrev pub mark : ℕ → ℕ → Level NodeKey
 mark i left = record { left = left; at = Pair i }
 
 -- the listed pair at i is led to by the listed pair x
@@ -25,11 +25,11 @@ pub record LedFrom (es : List Listed) (i : ℕ) (e x : Listed) : Type 0 where
 
 module _ (A B : Automaton) (es : List Listed) where
   -- the level is that of a listed pair: of a place where it is listed, with the count of the children that follow the one that goes on to it
-  abbrev pub MarkOf : Level Spot → Listed → Type 0
+  abbrev pub MarkOf : Level NodeKey → Listed → Type 0
   MarkOf l e = (i : ℕ) × (x : Listed) × LedFrom es i e x × (f : Fork A B x.first x.second e) × (l ≡ mark i (length (word f.after)))
 
   -- the levels are those of the pairs, in this order
-  abbrev pub MarksOf : List (Level Spot) → List Listed → Type 0
+  abbrev pub MarksOf : List (Level NodeKey) → List Listed → Type 0
   MarksOf [] [] = Unit {0}
   MarksOf [] (e ∷ back) = ⊥
   MarksOf (l ∷ levels) [] = ⊥
@@ -48,6 +48,6 @@ module _ (A B : Automaton) (es : List Listed) where
 
   -- a climb from the pair at i, which is broken in a kind, finds the bytes needed for the document, and leaves the levels of the way to it,
   -- its last pair at the bottom; or none: there is no document
-  abbrev pub Climbed : Kind → ℕ → Option ℕ → List (Level Spot) → Type 0
+  abbrev pub Climbed : Kind → ℕ → Option ℕ → List (Level NodeKey) → Type 0
   Climbed k i (Some size) levels = (way : List Listed) × (t : Tree) × DocumentOf A B k es i way t × (size ≡ needed t) × MarksOf levels (reverse way)
   Climbed k i None levels = (way : List Listed) (t : Tree) → DocumentOf A B k es i way t → ⊥

@@ -7,9 +7,9 @@ use Rattle.schema.specs.Live.{LiveSequence}
 use Rattle.schema.specs.Tables.{automaton_of}
 use Rattle.search.specs.Sequences.{First}
 use Rattle.search.specs.Watching.{Holds}
-use Rattle.document.specs.declared.telling.Node.{Node}
+use Rattle.samples.specs.declared.node.Node.{Node}
 use Rattle.document.specs.declared.telling.Telling.{Telling}
-use Rattle.document.specs.Seeds.{HasSamples}
+use Rattle.samples.specs.Kept.{HasSamples}
 
 -- the value and the symbols have the property; none, where nothing has it
 abbrev pub Answered : (ℕ → List ℕ → Type 0) → Option Node → Type 0

@@ -20,7 +20,7 @@ use Rattle.compare.specs.Strangers.{is_holder, stranger}
 use Rattle.compare.specs.Trailing.{broken_index}
 use Rattle.compare.specs.Work.{Work, said}
 use Rattle.document.specs.Documents.{DocumentOf}
-use Rattle.document.specs.Seeds.{needed}
+use Rattle.samples.specs.Kept.{needed}
 
 -- `scratch`: fewer than 4,160 levels are lent, which is its place
 abbrev pub short_levels : ℕ → Option Refusal

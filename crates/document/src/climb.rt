@@ -8,10 +8,10 @@ ghost use Rattle.document.specs.Documents.{LeadsTo};
 ghost use Rattle.document.specs.Forks.{Fork, head, tail};
 ghost use Rattle.document.specs.Marks.{Climbed, EndsAt, StepsUp};
 ghost use Rattle.document.specs.Nodes.{Ready, first_automaton, second_automaton};
-ghost use Rattle.document.specs.Samples.{Samples as AreSamples};
-ghost use Rattle.document.specs.Seeds.{HasSamples, needed};
+ghost use Rattle.samples.specs.Samples.{Samples as AreSamples};
+ghost use Rattle.samples.specs.Kept.{HasSamples, needed};
 
-use crate::level::Spot;
+use crate::level::NodeKey;
 use crate::size::add;
 use crate::telling::{Node, Telling};
 use codec::item::Level;
@@ -100,7 +100,7 @@ impl<D: Domain> Telling<'_, '_, '_, '_, '_, D> {
         &self,
         place: usize,
         scratch: &mut [RowPair],
-        levels: &mut Pile<Level<Spot>>,
+        levels: &mut Pile<Level<NodeKey>>,
     ) -> Option<u32>
         ensures climbed { Ready D.Domain.holds self.now → 272 ≤ length scratch.old → levels.old.entries ≡ [] → 4096 ≤ length levels.old.free → Climbed (first_automaton D.Domain.holds self.now) (second_automaton D.Domain.holds self.now) (entries_of self.now.pairs.now) self.now.kind place result levels.new.entries }
         ensures slots { slots levels.new ≡ slots levels.old }
@@ -112,7 +112,7 @@ impl<D: Domain> Telling<'_, '_, '_, '_, '_, D> {
             size = add(size, step.size);
             levels.push(Level {
                 left: step.left,
-                at: Spot::Pair(at as u16),
+                at: NodeKey::Pair(at as u16),
             });
             at = step.at;
         }

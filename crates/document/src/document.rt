@@ -6,9 +6,9 @@ ghost use Rattle.compare.specs.Work.{said};
 ghost use Rattle.document.specs.Documents.{TellsApart, OneDocument, HasDocument};
 ghost use Rattle.document.specs.Writing.{Documenting, DocumentAnswer, OneDocumenting, DocumentOfStranger, kept_from};
 
-use crate::level::Spot;
+use crate::level::NodeKey;
 use crate::samples::Samples;
-use crate::sheet::Sheet;
+use crate::output::Output;
 use crate::size::LONGEST;
 use crate::telling::Telling;
 use codec::item::Level;
@@ -51,7 +51,7 @@ fn write_document<D: Domain>(
     first: &Tested<D>,
     second: &Tested<D>,
     scratch: &mut [RowPair],
-    levels: &mut [Level<Spot>],
+    levels: &mut [Level<NodeKey>],
     output: &mut [u8],
 ) -> Result<usize, Refusal>
     ensures { other_counts (said area.now) (tables first.now.measured.schema) (tables second.now.measured.schema) ≡ None → 272 ≤ length scratch.old → 4160 ≤ length levels.old → DocumentAnswer (automaton_of D.Domain.holds first.now.measured.schema) (automaton_of D.Domain.holds second.now.measured.schema) (said area.now) output.old result output.new }
@@ -72,11 +72,11 @@ fn write_document<D: Domain>(
     if size > LONGEST || output.len() < size as usize {
         return Err(room);
     }
-    let mut sheet = Sheet { output, place: 0 };
+    let mut output = Output { output, place: 0 };
     telling
-        .write(broken.index, scratch, &mut levels, &mut sheet)
+        .write(broken.index, scratch, &mut levels, &mut output)
         .ok_or(room)?;
-    Ok(sheet.place)
+    Ok(output.place)
 }
 
 /// Writes the document of a comparison that came out apart at the output's front, and tells its length. The claim is told by its two numbers.
@@ -89,7 +89,7 @@ pub fn document<D: Domain>(
     first: &Schema<D>,
     second: &Schema<D>,
     scratch: &mut [RowPair],
-    levels: &mut [Level<Spot>],
+    levels: &mut [Level<NodeKey>],
     output: &mut [u8],
 ) -> Result<usize, Refusal>
     ensures outcome { Documenting (tables first.now) (tables second.now) (sets D.Domain.holds first.now) (sets D.Domain.holds second.now) claim (length scratch.old) (length levels.old) area.now output.old result output.new }

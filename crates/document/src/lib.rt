@@ -6,7 +6,7 @@ pub mod document;
 pub mod level;
 pub mod samples;
 pub mod sampling;
-pub mod sheet;
+pub mod output;
 pub mod size;
 pub mod telling;
 pub mod word;

@@ -4,7 +4,7 @@ ghost use Rattle.compare.specs.declared.phase.Kind.TheVariants.{Value};
 ghost use Rattle.search.specs.Watching.{wanted};
 ghost use Rattle.document.specs.Documents.{AtEnd, OnWay};
 ghost use Rattle.document.specs.Nodes.{Answered, Around, FirstPlace, LeastWith, StatePair, first_automaton, second_automaton};
-ghost use Rattle.document.specs.Seeds.{HasSamples};
+ghost use Rattle.samples.specs.Kept.{HasSamples};
 
 use crate::samples::Samples;
 use crate::word::Word;
@@ -102,8 +102,8 @@ impl<D: Domain> Telling<'_, '_, '_, '_, '_, D> {
             live: self.samples.live,
         };
         let value = compared.gap(pair.first, pair.second)?;
-        let seed = self.samples.seed(pair.first)?;
-        let word = Word::of(seed.word.as_slice());
+        let root = self.samples.root(pair.first)?;
+        let word = Word::of(root.word.as_slice());
         Some(Node { value, word })
     }
 

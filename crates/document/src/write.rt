@@ -11,12 +11,12 @@ ghost use Rattle.document.specs.Forks.{Fork, head, tail, Surrounds};
 ghost use Rattle.document.specs.Marks.{LedFrom, MarksOf, mark};
 ghost use Rattle.document.specs.Nodes.{Ready, first_automaton, second_automaton};
 ghost use Rattle.document.specs.Passing.{passage_of};
-ghost use Rattle.document.specs.Sampling.{Leaves};
-ghost use Rattle.document.specs.Sheets.{Within};
+ghost use Rattle.samples.specs.Writing.{Leaves};
+ghost use Rattle.samples.specs.Outputs.{Within};
 
-use crate::level::Spot;
+use crate::level::NodeKey;
 use crate::sampling::write_children;
-use crate::sheet::Sheet;
+use crate::output::Output;
 use crate::telling::{Node, Telling};
 use codec::item::Level;
 use codec::pile::Pile;
@@ -33,10 +33,10 @@ struct Passage {
 
 impl<D: Domain> Telling<'_, '_, '_, '_, '_, D> {
     /// The node from which the way goes on to the pair of a level. ROW_PAIRS slots are lent.
-    fn passage(&self, level: Level<Spot>, scratch: &mut [RowPair]) -> Option<Passage>
+    fn passage(&self, level: Level<NodeKey>, scratch: &mut [RowPair]) -> Option<Passage>
         ensures { Ready D.Domain.holds self.now → 272 ≤ length scratch.old → (i left : ℕ) (e x : ListedPair) → level ≡ mark i left → LedFrom (entries_of self.now.pairs.now) i e x → (f : Fork (first_automaton D.Domain.holds self.now) (second_automaton D.Domain.holds self.now) x.first x.second e) → result ≡ Some (passage_of f) }
     {
-        let Spot::Pair(place) = level.at else {
+        let NodeKey::Pair(place) = level.at else {
             return None;
         };
         let pair = self.pairs.entry(usize::from(place))?;
@@ -54,30 +54,30 @@ impl<D: Domain> Telling<'_, '_, '_, '_, '_, D> {
     fn write_before(
         &self,
         passage: &Passage,
-        levels: &mut Pile<Level<Spot>>,
-        sheet: &mut Sheet,
+        levels: &mut Pile<Level<NodeKey>>,
+        output: &mut Output,
     ) -> Option<()>
-        ensures written { Ready D.Domain.holds self.now → 64 ≤ length levels.old.free → (p q : ℕ) (e : ListedPair) (f : Fork (first_automaton D.Domain.holds self.now) (second_automaton D.Domain.holds self.now) p q e) → p < self.now.samples.tested.now.measured.schema.states → passage.now ≡ passage_of f → Leaves (head (first_automaton D.Domain.holds self.now) (second_automaton D.Domain.holds self.now) f) levels.old.entries sheet.old result levels.new sheet.new }
+        ensures written { Ready D.Domain.holds self.now → 64 ≤ length levels.old.free → (p q : ℕ) (e : ListedPair) (f : Fork (first_automaton D.Domain.holds self.now) (second_automaton D.Domain.holds self.now) p q e) → p < self.now.samples.tested.now.measured.schema.states → passage.now ≡ passage_of f → Leaves (head (first_automaton D.Domain.holds self.now) (second_automaton D.Domain.holds self.now) f) levels.old.entries output.old result levels.new output.new }
         ensures slots { slots levels.new ≡ slots levels.old }
     {
         let (before, _) = passage.node.around(passage.symbol)?;
-        sheet.head(passage.node.value, passage.node.word.len() as u32)?;
-        write_children(&self.samples, passage.state, before, levels, sheet)?;
-        sheet.number(u32::from(passage.symbol))
+        output.head(passage.node.value, passage.node.word.len() as u32)?;
+        write_children(&self.samples, passage.state, before, levels, output)?;
+        output.number(u32::from(passage.symbol))
     }
 
     /// Writes what it has after that tree: the children after.
     fn write_after(
         &self,
         passage: &Passage,
-        levels: &mut Pile<Level<Spot>>,
-        sheet: &mut Sheet,
+        levels: &mut Pile<Level<NodeKey>>,
+        output: &mut Output,
     ) -> Option<()>
-        ensures written { Ready D.Domain.holds self.now → 64 ≤ length levels.old.free → Within sheet.old → (p q : ℕ) (e : ListedPair) (f : Fork (first_automaton D.Domain.holds self.now) (second_automaton D.Domain.holds self.now) p q e) → p < self.now.samples.tested.now.measured.schema.states → passage.now ≡ passage_of f → Leaves (tail (first_automaton D.Domain.holds self.now) (second_automaton D.Domain.holds self.now) f) levels.old.entries sheet.old result levels.new sheet.new }
+        ensures written { Ready D.Domain.holds self.now → 64 ≤ length levels.old.free → Within output.old → (p q : ℕ) (e : ListedPair) (f : Fork (first_automaton D.Domain.holds self.now) (second_automaton D.Domain.holds self.now) p q e) → p < self.now.samples.tested.now.measured.schema.states → passage.now ≡ passage_of f → Leaves (tail (first_automaton D.Domain.holds self.now) (second_automaton D.Domain.holds self.now) f) levels.old.entries output.old result levels.new output.new }
         ensures slots { slots levels.new ≡ slots levels.old }
     {
         let (_, after) = passage.node.around(passage.symbol)?;
-        write_children(&self.samples, passage.state, after, levels, sheet)
+        write_children(&self.samples, passage.state, after, levels, output)
     }
 
     /// Writes what the nodes on the way have before the trees of the children that go on, from the first node down. The levels are those of the
@@ -85,15 +85,15 @@ impl<D: Domain> Telling<'_, '_, '_, '_, '_, D> {
     fn write_down(
         &self,
         scratch: &mut [RowPair],
-        levels: &mut Pile<Level<Spot>>,
-        sheet: &mut Sheet,
+        levels: &mut Pile<Level<NodeKey>>,
+        output: &mut Output,
     ) -> Option<()>
-        ensures written { Ready D.Domain.holds self.now → 272 ≤ length scratch.old → 64 ≤ length levels.old.free → Within sheet.old → (back : List ListedPair) (before after : List ℕ) → MarksOf (first_automaton D.Domain.holds self.now) (second_automaton D.Domain.holds self.now) (entries_of self.now.pairs.now) levels.old.entries back → Surrounds (first_automaton D.Domain.holds self.now) (second_automaton D.Domain.holds self.now) (entries_of self.now.pairs.now) back before after → Leaves before levels.old.entries sheet.old result levels.new sheet.new }
+        ensures written { Ready D.Domain.holds self.now → 272 ≤ length scratch.old → 64 ≤ length levels.old.free → Within output.old → (back : List ListedPair) (before after : List ℕ) → MarksOf (first_automaton D.Domain.holds self.now) (second_automaton D.Domain.holds self.now) (entries_of self.now.pairs.now) levels.old.entries back → Surrounds (first_automaton D.Domain.holds self.now) (second_automaton D.Domain.holds self.now) (entries_of self.now.pairs.now) back before after → Leaves before levels.old.entries output.old result levels.new output.new }
         ensures slots { slots levels.new ≡ slots levels.old }
     {
         for index in (0..levels.len()).rev() {
             let passage = self.passage(levels.read(index)?, scratch)?;
-            self.write_before(&passage, levels, sheet)?;
+            self.write_before(&passage, levels, output)?;
         }
         Some(())
     }
@@ -102,10 +102,10 @@ impl<D: Domain> Telling<'_, '_, '_, '_, '_, D> {
     fn write_up(
         &self,
         scratch: &mut [RowPair],
-        levels: &mut Pile<Level<Spot>>,
-        sheet: &mut Sheet,
+        levels: &mut Pile<Level<NodeKey>>,
+        output: &mut Output,
     ) -> Option<()>
-        ensures written { Ready D.Domain.holds self.now → 272 ≤ length scratch.old → 64 ≤ length levels.old.free → Within sheet.old → (back : List ListedPair) (before after : List ℕ) → MarksOf (first_automaton D.Domain.holds self.now) (second_automaton D.Domain.holds self.now) (entries_of self.now.pairs.now) levels.old.entries back → Surrounds (first_automaton D.Domain.holds self.now) (second_automaton D.Domain.holds self.now) (entries_of self.now.pairs.now) back before after → Leaves after levels.old.entries sheet.old result levels.new sheet.new }
+        ensures written { Ready D.Domain.holds self.now → 272 ≤ length scratch.old → 64 ≤ length levels.old.free → Within output.old → (back : List ListedPair) (before after : List ℕ) → MarksOf (first_automaton D.Domain.holds self.now) (second_automaton D.Domain.holds self.now) (entries_of self.now.pairs.now) levels.old.entries back → Surrounds (first_automaton D.Domain.holds self.now) (second_automaton D.Domain.holds self.now) (entries_of self.now.pairs.now) back before after → Leaves after levels.old.entries output.old result levels.new output.new }
         ensures slots { slots levels.new ≡ slots levels.old }
     {
         for index in 0..levels.len() {
@@ -114,7 +114,7 @@ impl<D: Domain> Telling<'_, '_, '_, '_, '_, D> {
                 continue;
             }
             let passage = self.passage(level, scratch)?;
-            self.write_after(&passage, levels, sheet)?;
+            self.write_after(&passage, levels, output)?;
         }
         Some(())
     }
@@ -124,21 +124,21 @@ impl<D: Domain> Telling<'_, '_, '_, '_, '_, D> {
         &self,
         place: usize,
         scratch: &mut [RowPair],
-        levels: &mut Pile<Level<Spot>>,
-        sheet: &mut Sheet,
+        levels: &mut Pile<Level<NodeKey>>,
+        output: &mut Output,
     ) -> Option<()>
-        ensures written { Ready D.Domain.holds self.now → 272 ≤ length scratch.old → 64 ≤ length levels.old.free → (x : ListedPair) (t : Tree) → slice_get (entries_of self.now.pairs.now) place ≡ Some x → Built (first_automaton D.Domain.holds self.now) (second_automaton D.Domain.holds self.now) self.now.kind x.first x.second [] t → Leaves (tree_bytes t) levels.old.entries sheet.old result levels.new sheet.new }
+        ensures written { Ready D.Domain.holds self.now → 272 ≤ length scratch.old → 64 ≤ length levels.old.free → (x : ListedPair) (t : Tree) → slice_get (entries_of self.now.pairs.now) place ≡ Some x → Built (first_automaton D.Domain.holds self.now) (second_automaton D.Domain.holds self.now) self.now.kind x.first x.second [] t → Leaves (tree_bytes t) levels.old.entries output.old result levels.new output.new }
         ensures slots { slots levels.new ≡ slots levels.old }
     {
         let pair = self.pairs.entry(place)?;
         let node = self.end_node(pair, scratch)?;
-        sheet.head(node.value, node.word.len() as u32)?;
+        output.head(node.value, node.word.len() as u32)?;
         write_children(
             &self.samples,
             pair.first,
             node.word.as_slice(),
             levels,
-            sheet,
+            output,
         )
     }
 
@@ -148,14 +148,14 @@ impl<D: Domain> Telling<'_, '_, '_, '_, '_, D> {
         &self,
         place: usize,
         scratch: &mut [RowPair],
-        levels: &mut Pile<Level<Spot>>,
-        sheet: &mut Sheet,
+        levels: &mut Pile<Level<NodeKey>>,
+        output: &mut Output,
     ) -> Option<()>
-        ensures written { Ready D.Domain.holds self.now → 272 ≤ length scratch.old → 64 ≤ length levels.old.free → Within sheet.old → (way : List ListedPair) (t : Tree) → DocumentOf (first_automaton D.Domain.holds self.now) (second_automaton D.Domain.holds self.now) self.now.kind (entries_of self.now.pairs.now) place way t → MarksOf (first_automaton D.Domain.holds self.now) (second_automaton D.Domain.holds self.now) (entries_of self.now.pairs.now) levels.old.entries (reverse way) → Leaves (tree_bytes t) levels.old.entries sheet.old result levels.new sheet.new }
+        ensures written { Ready D.Domain.holds self.now → 272 ≤ length scratch.old → 64 ≤ length levels.old.free → Within output.old → (way : List ListedPair) (t : Tree) → DocumentOf (first_automaton D.Domain.holds self.now) (second_automaton D.Domain.holds self.now) self.now.kind (entries_of self.now.pairs.now) place way t → MarksOf (first_automaton D.Domain.holds self.now) (second_automaton D.Domain.holds self.now) (entries_of self.now.pairs.now) levels.old.entries (reverse way) → Leaves (tree_bytes t) levels.old.entries output.old result levels.new output.new }
         ensures slots { slots levels.new ≡ slots levels.old }
     {
-        self.write_down(scratch, levels, sheet)?;
-        self.write_end(place, scratch, levels, sheet)?;
-        self.write_up(scratch, levels, sheet)
+        self.write_down(scratch, levels, output)?;
+        self.write_end(place, scratch, levels, output)?;
+        self.write_up(scratch, levels, output)
     }
 }

@@ -30,7 +30,7 @@ use Rattle.compare.specs.declared.phase.Verdict.TheVariants.{Included, Apart}
 use Rattle.compare.specs.Breaking.{Broken, Unbroken}
 use Rattle.compare.specs.Stepping.{next_pair, with_found, with_nexts, examined_to, going_on, Turn, Turns, Stepped, Examines, is_running}
 use Rattle.compare.specs.Work.{Work, start, begun}
-use Rattle.document.specs.Samples.{LowerSequence, Sample}
+use Rattle.samples.specs.Samples.{LowerSequence, Sample}
 use Rattle.history.specs.Marked.{zero_alone, U, V, W, over_zero, ComesTo, HasDocument, letters, just_letters, from_to, MarkedCases}
 
 -- each of the three state's domains has 0 as its least value

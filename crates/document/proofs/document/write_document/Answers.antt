@@ -10,7 +10,7 @@ use Rattle.compare.specs.Work.{said}
 use Rattle.compare.specs.Writing.{BrokenOf}
 use Rattle.compare.proofs.Views.{kept_of, many_of}
 use Rattle.document.specs.Marks.{Climbed}
-use Rattle.document.specs.Seeds.{needed}
+use Rattle.samples.specs.Kept.{needed}
 use Rattle.document.specs.Writing.{Found}
 use Rattle.document.proofs.Calling.{ok_there, err_none, ready_of, found_in, none_in, added_at, crowded_at}
 use Rattle.document.proofs.Upwards.{way_levels}
@@ -79,7 +79,7 @@ returns-in_err-ok_or g c = λ counts room levels.
     let free : 64 ≤ length c.climb.new.levels.free = omega (arith, c.climb.ensures.slots, ap length c.new-levels.ensures.empty, ap length c.new-levels.ensures.over, few, many_of b.pairs.now, (kept_of b.pairs.now).short) in
     let wrote = c.write.ensures.written ready (omega arith) free (omega arith) way t climb.2 climb.4 in
     let none = err_none c.write.result c.at-room.result c.in_err-ok_or.field-0.0 (sym c.in_err-ok_or.was ∙ c.ok_or-3.ensures.value) in
-    let short : length c.args.output.now < 0 + length (tree_bytes t) = crowded_at (tree_bytes t) _ _ c.write.new.sheet c.write.result c.write.new.levels wrote none.0 in
+    let short : length c.args.output.now < 0 + length (tree_bytes t) = crowded_at (tree_bytes t) _ _ c.write.new.output c.write.result c.write.new.levels wrote none.0 in
     absurd (omega (arith, short, climb.3, c.if-size-gt-LONGEST.false, c.if-output-size.false))
 
 pub returns : goal.returns
@@ -102,11 +102,11 @@ returns g c = λ counts room levels.
     let few = way_levels A' B b.kind (entries_of b.pairs.now) b.index way t c.climb.new.levels.entries climb.2 climb.4 in
     let free : 64 ≤ length c.climb.new.levels.free = omega (arith, c.climb.ensures.slots, ap length c.new-levels.ensures.empty, ap length c.new-levels.ensures.over, few, many_of b.pairs.now, (kept_of b.pairs.now).short) in
     let wrote = c.write.ensures.written ready (omega arith) free (omega arith) way t climb.2 climb.4 in
-    let added = added_at (tree_bytes t) _ _ c.write.new.sheet c.write.result c.write.new.levels c.in_ok-ok_or.field-0 wrote (ok_there c.write.result c.at-room.result c.in_ok-ok_or.field-0 (sym c.in_ok-ok_or.was ∙ c.ok_or-3.ensures.value)) in
-    let long : c.write.new.sheet.place ≡ length (tree_bytes t) = omega (arith, added.written.next_place) in (
+    let added = added_at (tree_bytes t) _ _ c.write.new.output c.write.result c.write.new.levels c.in_ok-ok_or.field-0 wrote (ok_there c.write.result c.at-room.result c.in_ok-ok_or.field-0 (sym c.in_ok-ok_or.was ∙ c.ok_or-3.ensures.value)) in
+    let long : c.write.new.output.place ≡ length (tree_bytes t) = omega (arith, added.written.next_place) in (
       found,
       long,
       omega (arith, long, climb.3, c.if-size-gt-LONGEST.false),
       omega (arith, long, climb.3, c.if-size-gt-LONGEST.false, c.if-output-size.false),
-      c.output-2-1.given.1.1 (sym added.lent) ∙ added.written.after,
+      c.bytes-2-1.given.1.1 (sym added.lent) ∙ added.written.after,
     )

@@ -6,7 +6,7 @@ use Rattle.std.proofs.lemmas.Option.{none-some, slice_get_within}
 use Rattle.codec.specs.declared.item.Level.{Level}
 use Rattle.compare.specs.Listing.{entries_of}
 use Rattle.compare.proofs.Views.{kept_of, many_of}
-use Rattle.document.specs.declared.level.Spot.{Spot}
+use Rattle.samples.specs.declared.node.NodeKey.{NodeKey}
 use Rattle.document.specs.Marks.{mark}
 use Rattle.document.specs.Nodes.{first_automaton, second_automaton}
 use Rattle.document.proofs.Upwards.{pushed_on, pushed_slots, Point, begins, goes_up, levels_few, no_end, no_way_up, ends_at_first}
@@ -58,7 +58,7 @@ loop-at-preserved g c = (
       let few = levels_few A B t.kind es i l.at l.size l.levels.entries p in
       let some : 0 < length l.levels.free = omega (arith, l.invariant.0, ap length empty, few, free, inside, many_of pairs, (kept_of pairs).short) in
       let levels = pushed_on l.levels (mark l.at step.left) c.push.result c.push.new.self c.push.ensures some in
-      subst (λ (n : ℕ). Point A B t.kind es i step.at n c.push.new.self.entries) (sym c.add-size.ensures) (subst (λ (ls : List (Level Spot)). Point A B t.kind es i step.at (min (l.size + step.size) 65537) ls) (sym levels) next),
+      subst (λ (n : ℕ). Point A B t.kind es i step.at n c.push.new.self.entries) (sym c.add-size.ensures) (subst (λ (ls : List (Level NodeKey)). Point A B t.kind es i step.at (min (l.size + step.size) 65537) ls) (sym levels) next),
 )
 
 pub returns-in_err-start-clause-climbed : goal.returns-in_err-start-clause-climbed

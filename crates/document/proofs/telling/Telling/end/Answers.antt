@@ -7,7 +7,7 @@ use Rattle.compare.specs.Listing.{entries_of}
 use Rattle.compare.proofs.Views.{entries_fit}
 use Rattle.document.specs.Nodes.{StatePair, first_automaton, second_automaton}
 use Rattle.document.proofs.Splitting.{end_children}
-use Rattle.document.proofs.Sizing.{kept_seeded}
+use Rattle.samples.proofs.Sizing.{kept_rooted}
 use Rattle.document.proofs.Upwards.{ends, ends_nowhere}
 use Rattle.document.proofs.telling.Telling.end.Goals as goal
 
@@ -38,5 +38,5 @@ returns g c = λ ready room.
     let low : StatePair t pair.first pair.second = (subst (λ (n : ℕ). pair.first < n) ready.firsts fit.first_inside, subst (λ (n : ℕ). pair.second < n) ready.seconds fit.second_inside) in
     let end = c.in_ok-node.ensures low ready.samples room in
     let inside = (sound (tables schema) (sets g.D.Domain.holds schema) s.sound).next_in in
-    let cs = end_children A B schema.states inside (kept_seeded A schema.states t.samples.live t.samples.seeds t.samples.sizes ready.samples) t.kind pair.first pair.second node.value node.word low.0 end in
+    let cs = end_children A B schema.states inside (kept_rooted A schema.states t.samples.live t.samples.roots t.samples.sizes ready.samples) t.kind pair.first pair.second node.value node.word low.0 end in
     ends A B t.kind (entries_of t.pairs.now) c.args.place pair there node.value c.end_size.result node.word end cs (c.end_size.ensures ready.samples low.0 cs.0 cs.2 cs.1)

@@ -7,8 +7,8 @@ use Rattle.codec.specs.Trees.{word}
 use Rattle.compare.specs.declared.pairs.Listed.{Listed}
 use Rattle.compare.specs.Listing.{entries_of}
 use Rattle.compare.proofs.Views.{entries_fit}
-use Rattle.document.specs.declared.level.Spot.{Spot}
-use Rattle.document.specs.declared.level.Spot.TheVariants.{Pair}
+use Rattle.samples.specs.declared.node.NodeKey.{NodeKey}
+use Rattle.samples.specs.declared.node.NodeKey.TheVariants.{Pair}
 use Rattle.document.specs.Documents.{OnWay}
 use Rattle.document.specs.Marks.{mark, LedFrom}
 use Rattle.document.specs.Nodes.{Ready, first_automaton, second_automaton}
@@ -26,7 +26,7 @@ record Met (g : given.Over) (c : After-way_node g) (e x : Listed) : Type 0 where
 met : (g : given.Over) (c : After-way_node g) (i left : ℕ) (e x : Listed) → Ready g.D.Domain.holds c.args.self.now → c.args.level ≡ mark i left → LedFrom (entries_of c.args.self.now.pairs.now) i e x → Met g c e x
 met g c i left e x ready is led =
     let es = entries_of c.args.self.now.pairs.now in
-    let spot : ◌≡◌ {A = Spot} (Pair c.in-Pair.place) (Pair i) = sym c.in-Pair.is ∙ ap (λ (l : Level Spot). l.at) is in
+    let spot : ◌≡◌ {A = NodeKey} (Pair c.in-Pair.place) (Pair i) = sym c.in-Pair.is ∙ ap (λ (l : Level NodeKey). l.at) is in
     let place : c.in-Pair.place ≡ i = cc in
     let pair : c.in_ok-pair.pair ≡ e = same_Some _ _ (c.in_ok-pair.ensures.answer ∙ ap (slice_get es) (c.from.ensures ∙ place) ∙ led.there) in
     let at = ap (slice_get es) (c.from-2.ensures ∙ ap {B = ℕ} (λ (l : Listed). l.parent) pair) in

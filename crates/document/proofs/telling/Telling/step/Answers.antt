@@ -9,7 +9,7 @@ use Rattle.compare.proofs.Views.{entries_fit, kept_of, many_of}
 use Rattle.document.specs.Documents.{OnWay}
 use Rattle.document.specs.Nodes.{first_automaton, second_automaton}
 use Rattle.document.proofs.Splitting.{fork_of}
-use Rattle.document.proofs.Sizing.{kept_seeded}
+use Rattle.samples.proofs.Sizing.{kept_rooted}
 use Rattle.document.proofs.Stepping.{led_from, no_step}
 use Rattle.document.proofs.telling.Telling.step.Goals as goal
 
@@ -52,7 +52,7 @@ returns-clause-up g c = λ ready room.
     let parts = c.in_ok-before.ensures in
     let on_way : OnWay A B from.first pair.symbol node.value (c.in_ok-before.before.now ++ pair.symbol ∷ c.in_ok-before.after.now) = subst (OnWay A B from.first pair.symbol node.value) parts.0 found in
     let inside = (sound (tables schema) (sets g.D.Domain.holds schema) s.sound).next_in in
-    let forked = fork_of A B from.first from.second pair node.value c.in_ok-before.before.now c.in_ok-before.after.now on_way (c.leads.ensures.0 c.if-not-leads.false) parts.1 schema.states inside (kept_seeded A schema.states t.samples.live t.samples.seeds t.samples.sizes ready.samples) low in
+    let forked = fork_of A B from.first from.second pair node.value c.in_ok-before.before.now c.in_ok-before.after.now on_way (c.leads.ensures.0 c.if-not-leads.false) parts.1 schema.states inside (kept_rooted A schema.states t.samples.live t.samples.roots t.samples.sizes ready.samples) low in
     let all = ap (λ (u : List ℕ). u ++ pair.symbol ∷ word forked.fork.after) forked.word_before ∙ ap (λ (u : List ℕ). c.in_ok-before.before.now ++ pair.symbol ∷ u) forked.word_after ∙ sym parts.0 in (
       pair,
       from,

@@ -2,7 +2,7 @@
 use Rattle.std.proofs.Common.{◌≡◌, ℕ, sym, ap, subst, arith}
 use Rattle.document.specs.declared.write.Passage.{Passage}
 use Rattle.document.specs.Nodes.{first_automaton, second_automaton}
-use Rattle.document.specs.Samples.{Samples}
+use Rattle.samples.specs.Samples.{Samples}
 use Rattle.document.proofs.Passages.{children_fit, sides}
 use Rattle.document.proofs.telling.Telling.write_after.Goals as goal
 

@@ -6,15 +6,15 @@ use Rattle.codec.specs.Trees.{word}
 use Rattle.compare.specs.declared.pairs.Listed.{Listed}
 use Rattle.compare.specs.Listing.{entries_of}
 use Rattle.compare.proofs.Views.{entries_fit}
-use Rattle.document.specs.declared.level.Spot.TheVariants.{State}
+use Rattle.samples.specs.declared.node.NodeKey.TheVariants.{State}
 use Rattle.document.specs.Forks.{head, Surrounds}
 use Rattle.document.specs.Marks.{MarksOf}
 use Rattle.document.specs.Nodes.{Ready, first_automaton, second_automaton}
 use Rattle.document.specs.Passing.{passage_of}
-use Rattle.document.specs.Sheets.{Within, Added}
+use Rattle.samples.specs.Outputs.{Within, Added}
 use Rattle.document.proofs.Downward.{FurtherUp, surrounds_at, Parted, parted_at, nothing_around}
 use Rattle.document.proofs.Marks.{marks_long, marks_at, mark_counts}
-use Rattle.document.proofs.Sheets.{added_none, added_more, crowded_more, crowded_front}
+use Rattle.samples.proofs.Outputs.{added_none, added_more, crowded_more, crowded_front}
 use Rattle.document.proofs.telling.Telling.write_down.Given as given
 use Rattle.document.proofs.telling.Telling.write_down.Goals as goal
 use Rattle.document.proofs.telling.Telling.write_down.Goals.{After-passage}
@@ -27,9 +27,9 @@ record Here (g : given.Over) (c : After-passage g) (back : List Listed) (before 
   low : parted.from.first < c.args.self.now.samples.tested.now.measured.schema.states
   entries : c.loop-index.levels.entries ≡ c.args.levels.now.entries
   space : 64 ≤ length c.loop-index.levels.free
-  done : Added parted.front c.args.sheet.now c.loop-index.sheet
+  done : Added parted.front c.args.output.now c.loop-index.output
 
-module _ (g : given.Over) (c : After-passage g) (ready : Ready g.D.Domain.holds c.args.self.now) (room : 272 ≤ length c.args.scratch.now) (space : 64 ≤ length c.args.levels.now.free) (within : Within c.args.sheet.now) (back : List Listed) where
+module _ (g : given.Over) (c : After-passage g) (ready : Ready g.D.Domain.holds c.args.self.now) (room : 272 ≤ length c.args.scratch.now) (space : 64 ≤ length c.args.levels.now.free) (within : Within c.args.output.now) (back : List Listed) where
   here : (before after b a : List ℕ) → MarksOf (first_automaton g.D.Domain.holds c.args.self.now) (second_automaton g.D.Domain.holds c.args.self.now) (entries_of c.args.self.now.pairs.now) c.args.levels.now.entries back → Surrounds (first_automaton g.D.Domain.holds c.args.self.now) (second_automaton g.D.Domain.holds c.args.self.now) (entries_of c.args.self.now.pairs.now) back before after → Surrounds (first_automaton g.D.Domain.holds c.args.self.now) (second_automaton g.D.Domain.holds c.args.self.now) (entries_of c.args.self.now.pairs.now) (drop (c.loop-index.index - 1) back) b a → Here g c back b a
   here before after b a marks around s =
       let self = c.args.self.now in
@@ -66,7 +66,7 @@ loop-index-init g c =
         λ b a s.
             let es = entries_of c.args.self.now.pairs.now in
             let none = nothing_around _ _ es c.len-index.result back b a (omega (arith, c.len-index.ensures, marks_long _ _ es c.args.levels.now.entries back marks)) s in
-            subst (λ (l : List ℕ). Added l c.args.sheet.now c.args.sheet.now) (sym none.0) (added_none c.args.sheet.now within),
+            subst (λ (l : List ℕ). Added l c.args.output.now c.args.output.now) (sym none.0) (added_none c.args.output.now within),
       );
     }
 
@@ -99,8 +99,8 @@ loop-index-preserved g c =
                 let k = here g at ready room space within back before after b a marks around s in
                 let alike = same_Some c.in_ok-passage.passage (passage_of k.parted.fork) (sym c.in_ok-passage.was ∙ k.found) in
                 let now = c.in_ok-write_before.ensures.written ready k.space k.parted.from.first k.parted.from.second k.pair k.parted.fork k.low alike in
-                subst (λ (l : List ℕ). Added l c.args.sheet.now c.write_before.new.sheet) (sym k.parted.begins)
-                (added_more k.parted.front (head A B k.parted.fork) c.args.sheet.now c.loop-index.sheet k.done c.write_before.new.sheet now.0),
+                subst (λ (l : List ℕ). Added l c.args.output.now c.write_before.new.output) (sym k.parted.begins)
+                (added_more k.parted.front (head A B k.parted.fork) c.args.output.now c.loop-index.output k.done c.write_before.new.output now.0),
           );
     }
 
@@ -108,7 +108,7 @@ pub returns-in_err-write_before-clause-written : goal.returns-in_err-write_befor
 returns-in_err-write_before-clause-written g c = λ ready room space within back before after marks around.
     let A = first_automaton g.D.Domain.holds c.args.self.now in
     let B = second_automaton g.D.Domain.holds c.args.self.now in
-    let sheet = c.args.sheet.now in
+    let output = c.args.output.now in
     let at = (goal.at.returns-in_err-write_before-clause-written g c).After-passage in
     let w = inner g at ready room space within back before after around in
     let h = here g at ready room space within back before after w.front w.behind marks around w.surrounds in
@@ -118,8 +118,8 @@ returns-in_err-write_before-clause-written g c = λ ready room space within back
     let whole : before ≡ bytes ++ w.more = w.begins ∙ ap (λ (l : List ℕ). l ++ w.more) h.parted.begins in
     rw c.from_residual-in_err-write_before.ensures
     (
-    subst (λ (l : List ℕ). length sheet.output.now < sheet.place + length l) (sym whole)
-    (crowded_front bytes w.more sheet (crowded_more h.parted.front (head A B h.parted.fork) sheet c.loop-index.sheet h.done short))
+    subst (λ (l : List ℕ). length output.bytes.now < output.place + length l) (sym whole)
+    (crowded_front bytes w.more output (crowded_more h.parted.front (head A B h.parted.fork) output c.loop-index.output h.done short))
     )
 
 pub returns-clause-written : goal.returns-clause-written

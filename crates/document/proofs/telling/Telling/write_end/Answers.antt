@@ -10,22 +10,22 @@ use Rattle.compare.specs.Listing.{entries_of}
 use Rattle.compare.proofs.Views.{entries_fit}
 use Rattle.document.specs.Documents.{AtEnd, Built}
 use Rattle.document.specs.Nodes.{Ready, StatePair, first_automaton, second_automaton}
-use Rattle.document.specs.Samples.{Samples}
-use Rattle.document.specs.Sampling.{head_bytes, Leaves}
+use Rattle.samples.specs.Samples.{Samples}
+use Rattle.samples.specs.Writing.{head_bytes, Leaves}
 use Rattle.document.proofs.Passages.{children_fit, one_at_end}
-use Rattle.document.proofs.Sheets.{added_within, crowded_front}
-use Rattle.document.proofs.Splitting.{many_symbols}
-use Rattle.document.proofs.Turning.{Root, root, root_bytes, leaves_more}
+use Rattle.samples.proofs.Outputs.{added_within, crowded_front}
+use Rattle.samples.proofs.Lengths.{many_symbols}
+use Rattle.samples.proofs.Turning.{AsNode, as_node, node_whole, leaves_more}
 use Rattle.document.proofs.telling.Telling.write_end.Given as given
 use Rattle.document.proofs.telling.Telling.write_end.Goals as goal
 use Rattle.document.proofs.telling.Telling.write_end.Goals.{After-end_node}
 
 -- the pair, and what a tree at the end says of it
 record Ending (g : given.Over) (c : After-end_node g) (t : Tree) : Type 0 where
-  root : Root t
+  as_node : AsNode t
   low : StatePair c.args.self.now c.in_ok-pair.pair.first c.in_ok-pair.pair.second
-  end : AtEnd (first_automaton g.D.Domain.holds c.args.self.now) (second_automaton g.D.Domain.holds c.args.self.now) c.args.self.now.kind c.in_ok-pair.pair.first c.in_ok-pair.pair.second root.value (word root.children)
-  samples : Samples (first_automaton g.D.Domain.holds c.args.self.now) c.in_ok-pair.pair.first root.children
+  end : AtEnd (first_automaton g.D.Domain.holds c.args.self.now) (second_automaton g.D.Domain.holds c.args.self.now) c.args.self.now.kind c.in_ok-pair.pair.first c.in_ok-pair.pair.second as_node.value (word as_node.children)
+  samples : Samples (first_automaton g.D.Domain.holds c.args.self.now) c.in_ok-pair.pair.first as_node.children
 
 ending : (g : given.Over) (c : After-end_node g) (x : Listed) (t : Tree) → Ready g.D.Domain.holds c.args.self.now → slice_get (entries_of c.args.self.now.pairs.now) c.args.place ≡ Some x → Built (first_automaton g.D.Domain.holds c.args.self.now) (second_automaton g.D.Domain.holds c.args.self.now) c.args.self.now.kind x.first x.second [] t → Ending g c t
 ending g c x t ready there built =
@@ -34,10 +34,10 @@ ending g c x t ready there built =
     let B = second_automaton g.D.Domain.holds self in
     let pair : c.in_ok-pair.pair ≡ x = same_Some _ _ (c.in_ok-pair.ensures.answer ∙ there) in
     let fit = entries_fit self.pairs.now c.args.place c.in_ok-pair.pair (sym c.in_ok-pair.ensures.answer) in
-    let r = root t in
+    let r = as_node t in
     let so : Built A B self.kind c.in_ok-pair.pair.first c.in_ok-pair.pair.second [] (node r.value r.children) = subst (λ (y : Listed). Built A B self.kind y.first y.second [] (node r.value r.children)) (sym pair) (subst (Built A B self.kind x.first x.second []) r.is built) in
     record {
-      root = r;
+      as_node = r;
       low = (subst (λ (n : ℕ). c.in_ok-pair.pair.first < n) ready.firsts fit.first_inside, subst (λ (n : ℕ). c.in_ok-pair.pair.second < n) ready.seconds fit.second_inside);
       end = so.0;
       samples = so.1;
@@ -46,40 +46,40 @@ ending g c x t ready there built =
 pub returns-in_err-node-clause-written : goal.returns-in_err-node-clause-written
 returns-in_err-node-clause-written g c = λ ready room space x t there built.
     let e = ending g (goal.at.returns-in_err-node-clause-written g c).After-end_node x t ready there built in
-    absurd (c.in_err-node.ensures e.low ready.samples room e.root.value (word e.root.children) e.end)
+    absurd (c.in_err-node.ensures e.low ready.samples room e.as_node.value (word e.as_node.children) e.end)
 
 -- the bytes of the tree, as they are written
-whole : (t : Tree) (r : Root t) (value count : ℕ) → value ≡ r.value → count ≡ length (word r.children) → (number_bytes value ++ number_bytes count) ++ children_bytes r.children ≡ tree_bytes t
+whole : (t : Tree) (r : AsNode t) (value count : ℕ) → value ≡ r.value → count ≡ length (word r.children) → (number_bytes value ++ number_bytes count) ++ children_bytes r.children ≡ tree_bytes t
 whole t r value count same counted =
     let many : count ≡ many r.children = counted ∙ sym (many_symbols r.children) in
     let head : number_bytes value ++ number_bytes count ≡ head_bytes r.value r.children = λ i. number_bytes (same i) ++ number_bytes (many i) in
-    ap (λ (l : List ℕ). l ++ children_bytes r.children) head ∙ root_bytes r.value r.children ∙ ap tree_bytes (sym r.is)
+    ap (λ (l : List ℕ). l ++ children_bytes r.children) head ∙ node_whole r.value r.children ∙ ap tree_bytes (sym r.is)
 
 pub returns-in_err-head-clause-written : goal.returns-in_err-head-clause-written
 returns-in_err-head-clause-written g c = λ ready room space x t there built.
     let A = first_automaton g.D.Domain.holds c.args.self.now in
     let B = second_automaton g.D.Domain.holds c.args.self.now in
-    let before = c.args.sheet.now in
+    let before = c.args.output.now in
     let node = c.in_ok-node.node in
     let e = ending g (goal.at.returns-in_err-head-clause-written g c).After-end_node x t ready there built in
-    let same = one_at_end A B c.args.self.now.kind c.in_ok-pair.pair.first c.in_ok-pair.pair.second node.value e.root.value node.word (word e.root.children) (c.in_ok-node.ensures e.low ready.samples room) e.end in
-    let bytes = whole t e.root node.value c.len.result same.0 (c.len.ensures.count ∙ ap length same.1) in
+    let same = one_at_end A B c.args.self.now.kind c.in_ok-pair.pair.first c.in_ok-pair.pair.second node.value e.as_node.value node.word (word e.as_node.children) (c.in_ok-node.ensures e.low ready.samples room) e.end in
+    let bytes = whole t e.as_node node.value c.len.result same.0 (c.len.ensures.count ∙ ap length same.1) in
     rw c.from_residual-in_err-head.ensures
-    (subst (λ (l : List ℕ). length before.output.now < before.place + length l) bytes (crowded_front (number_bytes node.value ++ number_bytes c.len.result) (children_bytes e.root.children) before c.in_err-head.ensures))
+    (subst (λ (l : List ℕ). length before.bytes.now < before.place + length l) bytes (crowded_front (number_bytes node.value ++ number_bytes c.len.result) (children_bytes e.as_node.children) before c.in_err-head.ensures))
 
 pub returns-clause-written : goal.returns-clause-written
 returns-clause-written g c = λ ready room space x t there built.
     let self = c.args.self.now in
     let A = first_automaton g.D.Domain.holds self in
     let B = second_automaton g.D.Domain.holds self in
-    let before = c.args.sheet.now in
+    let before = c.args.output.now in
     let node = c.in_ok-node.node in
     let e = ending g (goal.at.returns-clause-written g c).After-end_node x t ready there built in
-    let cs = e.root.children in
-    let same = one_at_end A B self.kind c.in_ok-pair.pair.first c.in_ok-pair.pair.second node.value e.root.value node.word (word cs) (c.in_ok-node.ensures e.low ready.samples room) e.end in
+    let cs = e.as_node.children in
+    let same = one_at_end A B self.kind c.in_ok-pair.pair.first c.in_ok-pair.pair.second node.value e.as_node.value node.word (word cs) (c.in_ok-node.ensures e.low ready.samples room) e.end in
     let head = number_bytes node.value ++ number_bytes c.len.result in
-    let bytes : head ++ children_bytes cs ≡ tree_bytes t = whole t e.root node.value c.len.result same.0 (c.len.ensures.count ∙ ap length same.1) in
+    let bytes : head ++ children_bytes cs ≡ tree_bytes t = whole t e.as_node node.value c.len.result same.0 (c.len.ensures.count ∙ ap length same.1) in
     let high = children_fit g.D.Domain.holds self ready c.in_ok-pair.pair.first cs e.low.0 e.samples in
     let children = c.write_children.ensures.written ready.samples cs e.low.0 e.samples (sym same.1 ∙ sym c.as_slice.ensures.all) (omega (arith, high, space)) (added_within head before c.head.new.self c.in_ok-head.ensures) in
-    subst (λ (l : List ℕ). Leaves l c.args.levels.now.entries before c.write_children.result c.write_children.new.levels c.write_children.new.sheet) bytes
-    (leaves_more head (children_bytes cs) c.args.levels.now.entries before c.head.new.self c.write_children.new.sheet c.write_children.result c.write_children.new.levels c.in_ok-head.ensures children)
+    subst (λ (l : List ℕ). Leaves l c.args.levels.now.entries before c.write_children.result c.write_children.new.levels c.write_children.new.output) bytes
+    (leaves_more head (children_bytes cs) c.args.levels.now.entries before c.head.new.self c.write_children.new.output c.write_children.result c.write_children.new.levels c.in_ok-head.ensures children)

@@ -9,16 +9,16 @@ use Rattle.codec.specs.Trees.{word}
 use Rattle.compare.specs.declared.pairs.Listed.{Listed}
 use Rattle.compare.specs.Listing.{entries_of}
 use Rattle.compare.proofs.Views.{entries_fit}
-use Rattle.document.specs.declared.level.Spot.{Spot}
-use Rattle.document.specs.declared.level.Spot.TheVariants.{State}
+use Rattle.samples.specs.declared.node.NodeKey.{NodeKey}
+use Rattle.samples.specs.declared.node.NodeKey.TheVariants.{State}
 use Rattle.document.specs.Forks.{Fork, tail, Surrounds}
 use Rattle.document.specs.Marks.{MarksOf}
 use Rattle.document.specs.Nodes.{Ready, first_automaton, second_automaton}
 use Rattle.document.specs.Passing.{passage_of}
-use Rattle.document.specs.Sheets.{Within, Added}
+use Rattle.samples.specs.Outputs.{Within, Added}
 use Rattle.document.proofs.Downward.{Parted, parted_at, nothing_around}
 use Rattle.document.proofs.Marks.{Counts, marks_long, marks_at, mark_counts, no_tail}
-use Rattle.document.proofs.Sheets.{added_none, added_more, added_within, crowded_more, crowded_front}
+use Rattle.samples.proofs.Outputs.{added_none, added_more, added_within, crowded_more, crowded_front}
 use Rattle.document.proofs.telling.Telling.write_up.Given as given
 use Rattle.document.proofs.telling.Telling.write_up.Goals as goal
 use Rattle.document.proofs.telling.Telling.write_up.Goals.{In_ok-level, After-passage}
@@ -34,10 +34,10 @@ record Here (g : given.Over) (c : In_ok-level g) (back : List Listed) (after : L
   low : parted.from.first < c.args.self.now.samples.tested.now.measured.schema.states
   entries : c.loop-index.levels.entries ≡ c.args.levels.now.entries
   space : 64 ≤ length c.loop-index.levels.free
-  added : Added done c.args.sheet.now c.loop-index.sheet
+  added : Added done c.args.output.now c.loop-index.output
   whole : after ≡ (done ++ tail (first_automaton g.D.Domain.holds c.args.self.now) (second_automaton g.D.Domain.holds c.args.self.now) parted.fork) ++ parted.behind
 
-here : (g : given.Over) (c : In_ok-level g) → Ready g.D.Domain.holds c.args.self.now → 272 ≤ length c.args.scratch.now → 64 ≤ length c.args.levels.now.free → Within c.args.sheet.now → (back : List Listed) (before after : List ℕ) → MarksOf (first_automaton g.D.Domain.holds c.args.self.now) (second_automaton g.D.Domain.holds c.args.self.now) (entries_of c.args.self.now.pairs.now) c.args.levels.now.entries back → Surrounds (first_automaton g.D.Domain.holds c.args.self.now) (second_automaton g.D.Domain.holds c.args.self.now) (entries_of c.args.self.now.pairs.now) back before after → Here g c back after
+here : (g : given.Over) (c : In_ok-level g) → Ready g.D.Domain.holds c.args.self.now → 272 ≤ length c.args.scratch.now → 64 ≤ length c.args.levels.now.free → Within c.args.output.now → (back : List Listed) (before after : List ℕ) → MarksOf (first_automaton g.D.Domain.holds c.args.self.now) (second_automaton g.D.Domain.holds c.args.self.now) (entries_of c.args.self.now.pairs.now) c.args.levels.now.entries back → Surrounds (first_automaton g.D.Domain.holds c.args.self.now) (second_automaton g.D.Domain.holds c.args.self.now) (entries_of c.args.self.now.pairs.now) back before after → Here g c back after
 here g c ready room space within back before after marks around =
     let self = c.args.self.now in
     let A = first_automaton g.D.Domain.holds self in
@@ -70,7 +70,7 @@ pub loop-index-init : goal.loop-index-init
 loop-index-init g c =
     record {
       slots = refl;
-      written = λ ready room space within back before after marks around. (refl, ([], after, before, refl, around, added_none c.args.sheet.now within));
+      written = λ ready room space within back before after marks around. (refl, ([], after, before, refl, around, added_none c.args.output.now within));
     }
 
 pub returns-in_err-level-clause-written : goal.returns-in_err-level-clause-written
@@ -89,15 +89,15 @@ pub returns-in_err-write_after-clause-written : goal.returns-in_err-write_after-
 returns-in_err-write_after-clause-written g c = λ ready room space within back before after marks around.
     let A = first_automaton g.D.Domain.holds c.args.self.now in
     let B = second_automaton g.D.Domain.holds c.args.self.now in
-    let sheet = c.args.sheet.now in
+    let output = c.args.output.now in
     let at = goal.at.returns-in_err-write_after-clause-written g c in
     let h = here g at.In_ok-level ready room space within back before after marks around in
     let same = same_Some c.in_ok-passage.passage (passage_of h.parted.fork) (sym c.in_ok-passage.was ∙ found g at.After-passage ready room h.pair h.parted.from h.parted.fork h.counts) in
-    let short = c.in_err-write_after.ensures.written ready h.space (added_within h.done sheet c.loop-index.sheet h.added) h.parted.from.first h.parted.from.second h.pair h.parted.fork h.low same in
+    let short = c.in_err-write_after.ensures.written ready h.space (added_within h.done output c.loop-index.output h.added) h.parted.from.first h.parted.from.second h.pair h.parted.fork h.low same in
     rw c.from_residual-in_err-write_after.ensures
     (
-    subst (λ (l : List ℕ). length sheet.output.now < sheet.place + length l) (sym h.whole)
-    (crowded_front (h.done ++ tail A B h.parted.fork) h.parted.behind sheet (crowded_more h.done (tail A B h.parted.fork) sheet c.loop-index.sheet h.added short))
+    subst (λ (l : List ℕ). length output.bytes.now < output.place + length l) (sym h.whole)
+    (crowded_front (h.done ++ tail A B h.parted.fork) h.parted.behind output (crowded_more h.done (tail A B h.parted.fork) output c.loop-index.output h.added short))
     )
 
 pub loop-index-preserved-then-level-eq0 : goal.loop-index-preserved-then-level-eq0
@@ -108,7 +108,7 @@ loop-index-preserved-then-level-eq0 g c =
           let A = first_automaton g.D.Domain.holds c.args.self.now in
           let B = second_automaton g.D.Domain.holds c.args.self.now in
           let h = here g (goal.at.loop-index-preserved-then-level-eq0 g c).In_ok-level ready room space within back before after marks around in
-          let few : length (word h.parted.fork.after) ≡ 0 = sym (ap (λ (l : Level Spot). l.left) h.counts.level) ∙ c.if-level-eq0.true in
+          let few : length (word h.parted.fork.after) ≡ 0 = sym (ap (λ (l : Level NodeKey). l.left) h.counts.level) ∙ c.if-level-eq0.true in
           let none = ap (λ (l : List ℕ). h.done ++ l) (no_tail A B h.parted.fork few) ∙ append-nil h.done in (
             h.entries,
             (h.done, h.parted.behind, h.parted.front, h.whole ∙ ap (λ (l : List ℕ). l ++ h.parted.behind) none, h.parted.surrounds, h.added),
@@ -122,11 +122,11 @@ loop-index-preserved g c =
       written = λ ready room space within back before after marks around.
           let A = first_automaton g.D.Domain.holds c.args.self.now in
           let B = second_automaton g.D.Domain.holds c.args.self.now in
-          let sheet = c.args.sheet.now in
+          let output = c.args.output.now in
           let at = goal.at.loop-index-preserved g c in
           let h = here g at.In_ok-level ready room space within back before after marks around in
           let same = same_Some c.in_ok-passage.passage (passage_of h.parted.fork) (sym c.in_ok-passage.was ∙ found g at.After-passage ready room h.pair h.parted.from h.parted.fork h.counts) in
-          let now = c.in_ok-write_after.ensures.written ready h.space (added_within h.done sheet c.loop-index.sheet h.added) h.parted.from.first h.parted.from.second h.pair h.parted.fork h.low same in (
+          let now = c.in_ok-write_after.ensures.written ready h.space (added_within h.done output c.loop-index.output h.added) h.parted.from.first h.parted.from.second h.pair h.parted.fork h.low same in (
             now.1 ∙ h.entries,
             (
               h.done ++ tail A B h.parted.fork,
@@ -134,7 +134,7 @@ loop-index-preserved g c =
               h.parted.front,
               h.whole,
               h.parted.surrounds,
-              added_more h.done (tail A B h.parted.fork) sheet c.loop-index.sheet h.added c.write_after.new.sheet now.0,
+              added_more h.done (tail A B h.parted.fork) output c.loop-index.output h.added c.write_after.new.output now.0,
             ),
           );
     }
@@ -145,4 +145,4 @@ returns-clause-written g c = λ ready room space within back before after marks 
     let so = c.loop-index.invariant.written ready room space within back before after marks around in
     let none = nothing_around _ _ es c.loop-index.index back so.1.2 so.1.1 (omega (arith, c.loop-index-test.false, c.len-index-end.ensures, marks_long _ _ es c.args.levels.now.entries back marks)) so.1.4 in
     let all : after ≡ so.1.0 = so.1.3 ∙ ap (λ (l : List ℕ). so.1.0 ++ l) none.1 ∙ append-nil so.1.0 in
-    (subst (λ (l : List ℕ). Added l c.args.sheet.now c.loop-index.sheet) (sym all) so.1.5, so.0)
+    (subst (λ (l : List ℕ). Added l c.args.output.now c.loop-index.output) (sym all) so.1.5, so.0)
