@@ -1,18 +1,21 @@
 -- What holds of a list of pairs as pairs of next states are put behind it. Assumes nothing.
-use Rattle.std.proofs.Common.{◌≡◌, ℕ, zero, suc, ◌<◌, Bool, true, false, ◌⊎◌, List, [], ◌∷◌, ◌++◌, reverse, Some, None, Decides, Option, sym, refl, ap, ◌∙◌, subst, inl, inr, ⊎_elim, arith}
+use Rattle.std.proofs.Common.{◌≡◌, ℕ, zero, suc, ◌<◌, Bool, true, false, ◌⊎◌, List, [], ◌∷◌, ◌++◌, Some, None, Decides, Option, sym, refl, ap, ◌∙◌, subst, inl, inr, ⊎_elim, arith}
 use Rattle.std.specs.List.{slice_get}
 use Rattle.std.proofs.lemmas.Bool.{cases_Bool, cases_lt, cond-true, cond-false, or_left, false≢true}
-use Rattle.std.proofs.lemmas.List.{reverse-append}
 use Rattle.std.proofs.lemmas.Option.{none-some, same_Some, slice_get_within}
 use Rattle.schema.specs.Automata.{Automaton}
 use Rattle.schema.specs.Live.{LiveSymbol, LivePath}
 use Rattle.schema.proofs.Onward.{path_push}
+use Rattle.search.specs.Paths.{BreadthFirst}
+use Rattle.search.proofs.Paths.{word_kept, word_pushed}
 use Rattle.search.proofs.Places.{nth_kept, nth_new, nth_cases}
 use Rattle.compare.specs.declared.pairs.Listed.{Listed}
 use Rattle.compare.specs.Growing.{Path, Reached, Passed}
+use Rattle.compare.specs.Listing.{pair_links}
 use Rattle.compare.specs.Pairs.{listed, with_pair}
 use Rattle.compare.specs.Stepping.{next_pair, with_found, with_nexts}
-use Rattle.compare.specs.Trailing.{Traced, Trail}
+use Rattle.compare.specs.Trailing.{Trail}
+use Rattle.compare.proofs.Ordering.{Upto, upto_more, upto_pushed, order_pushed}
 use Rattle.compare.proofs.Standing.{listed_push, listed_new}
 
 -- every entry stays where it is, and what is listed stays listed
@@ -44,11 +47,6 @@ listed_pair es x =
     (λ new. ap (λ (fs : List Listed). listed fs x.first x.second) new ∙ listed_new es x)
     (with_pair_cases es x)
 
--- a trail stays where entries stay
-traced_further : (es fs : List Listed) → Further es fs → (w : List ℕ) (i : ℕ) → Traced es i w → Traced fs i w
-traced_further es fs more [] i t = t
-traced_further es fs more (a ∷ w) i t = (t.0, more.entries i t.0 t.1, t.2, t.3, traced_further es fs more w t.0.parent t.4)
-
 -- one symbol more
 path_on : (B : Automaton) (w : List ℕ) (p q a s : ℕ) → Path B p w q → B.next q a ≡ Some s → Path B p (w ++ a ∷ []) s
 path_on B [] p q a s e is = (s, ap (λ (k : ℕ). B.next k a) e ∙ is, refl)
@@ -63,15 +61,15 @@ module _ (A B : Automaton) where
     reached_push : Reached A B (es ++ x ∷ [])
     reached_push j f there =
         ⊎_elim
-        (λ old. let r = reached j f old in (r.0, traced_further es (es ++ x ∷ []) (further_push es x) (reverse r.0) j r.1, r.2, r.3))
+        (λ old. let r = reached j f old in (r.0, word_kept pair_links es (es ++ x ∷ []) (nth_kept x es) j r.0 r.1, r.2, r.3))
         (λ new.
         let r = reached i e at in
         let before : x.parent < j = omega (arith, behind, new.0, slice_get_within es i e at) in
-        let below : Traced (es ++ x ∷ []) x.parent (reverse r.0) = subst (λ (k : ℕ). Traced (es ++ x ∷ []) k (reverse r.0)) (sym behind) (traced_further es (es ++ x ∷ []) (further_push es x) (reverse r.0) i r.1) in
-        let trail : Traced (es ++ x ∷ []) j (x.symbol ∷ reverse r.0) = (x, ap (slice_get (es ++ x ∷ [])) new.0 ∙ nth_new x es, refl, before, below) in
+        let below : Trail (es ++ x ∷ []) x.parent r.0 = subst (λ (k : ℕ). Trail (es ++ x ∷ []) k r.0) (sym behind) (word_kept pair_links es (es ++ x ∷ []) (nth_kept x es) i r.0 r.1) in
+        let there : slice_get (es ++ x ∷ []) j ≡ Some x = ap (slice_get (es ++ x ∷ [])) new.0 ∙ nth_new x es in
         subst (λ (g : Listed). (w : List ℕ) × Trail (es ++ x ∷ []) j w × LivePath A 0 w g.first × Path B 0 w g.second) new.1 (
           r.0 ++ x.symbol ∷ [],
-          subst (Traced (es ++ x ∷ []) j) (sym (reverse-append r.0 (x.symbol ∷ []))) trail,
+          word_pushed pair_links (es ++ x ∷ []) j x r.0 there before below,
           path_push A r.0 0 e.first x.symbol x.first r.2 live first,
           path_on B r.0 0 e.second x.symbol x.second r.3 second,
         ))
@@ -81,18 +79,34 @@ module _ (A B : Automaton) where
     reached_pair = ⊎_elim (λ there. subst (Reached A B) (sym there.1) reached) (λ new. subst (Reached A B) (sym new) reached_push) (with_pair_cases es x)
 
   -- what listing the pairs of next states under the symbols below n leaves
-  pub record Listing (live : ℕ → Bool) (e : Listed) (n : ℕ) (es fs : List Listed) : Type 0 where
+  pub record Listing (live : ℕ → Bool) (e : Listed) (i n : ℕ) (es fs : List Listed) : Type 0 where
     pub further : Further es fs
     pub reached : Reached A B fs
     pub added : (a s u : ℕ) → a < n → live a ≡ true → A.next e.first a ≡ Some s → B.next e.second a ≡ Some u → listed fs s u ≡ true
+    pub ordered : BreadthFirst pair_links fs
+    pub upto : Upto pair_links fs i n
 
   module _ (live : ℕ → Bool) (e : Listed) (exact : (a : ℕ) → Decides (live a) (LiveSymbol A e.first a)) (i : ℕ) where
     -- under one symbol
-    module _ (es : List Listed) (reached : Reached A B es) (at : slice_get es i ≡ Some e) (a : ℕ) where
+    module _ (es : List Listed) (reached : Reached A B es) (at : slice_get es i ≡ Some e) (a : ℕ) (ordered : BreadthFirst pair_links es) (upto : Upto pair_links es i a) where
+      -- in breadth-first order, up to the symbol
+      abbrev InOrder : List Listed → Type 0
+      InOrder fs = BreadthFirst pair_links fs × Upto pair_links fs i (suc a)
+
+      in_order : InOrder es
+      in_order = (ordered, upto_more pair_links es i a upto)
+
+      pair_in_order : (x : Listed) → x.parent ≡ i → x.symbol ≡ a → InOrder (with_pair es x)
+      pair_in_order x parent symbol =
+          ⊎_elim
+          (λ there. subst InOrder (sym there.1) in_order)
+          (λ new. subst InOrder (sym new) (order_pushed pair_links es i a upto x parent symbol ordered, upto_pushed pair_links es i a upto x parent symbol))
+          (with_pair_cases es x)
+
       abbrev One : Bool → Option ℕ → Option ℕ → Type 0
       One b o p =
           let fs = with_found (next_pair i a b o p) es in
-          Further es fs × Reached A B fs × ((s u : ℕ) → b ≡ true → o ≡ Some s → p ≡ Some u → listed fs s u ≡ true)
+          Further es fs × Reached A B fs × ((s u : ℕ) → b ≡ true → o ≡ Some s → p ≡ Some u → listed fs s u ≡ true) × InOrder fs
 
       one : (b : Bool) (o p : Option ℕ) → live a ≡ b → A.next e.first a ≡ o → B.next e.second a ≡ p → One b o p
       one true (Some s) (Some u) alive first second =
@@ -100,18 +114,19 @@ module _ (A B : Automaton) where
             further_pair es x,
             reached_pair es reached i e at x refl ((exact a).0 alive) first second,
             λ s' u' _ same also. subst (λ (q : ℕ). listed (with_pair es x) s' q ≡ true) (same_Some _ _ also) (subst (λ (p : ℕ). listed (with_pair es x) p u ≡ true) (same_Some _ _ same) (listed_pair es x)),
+            pair_in_order x refl refl,
           )
-      one true (Some s) None alive first second = (further_same es, reached, λ s' u' _ same also. absurd (none-some _ also))
-      one true None p alive first second = (further_same es, reached, λ s' u' _ same also. absurd (none-some _ same))
-      one false o p alive first second = (further_same es, reached, λ s' u' no same also. absurd (false≢true no))
+      one true (Some s) None alive first second = (further_same es, reached, λ s' u' _ same also. absurd (none-some _ also), in_order)
+      one true None p alive first second = (further_same es, reached, λ s' u' _ same also. absurd (none-some _ same), in_order)
+      one false o p alive first second = (further_same es, reached, λ s' u' no same also. absurd (false≢true no), in_order)
 
     -- under the symbols below n
-    pub listing : (es : List Listed) → Reached A B es → slice_get es i ≡ Some e → (n : ℕ) → Listing live e n es (with_nexts A B live e.first e.second i n es)
-    listing es reached at zero = record { further = further_same es; reached = reached; added = λ a s u low. absurd (omega arith) }
-    listing es reached at (suc n) =
+    pub listing : (es : List Listed) → Reached A B es → slice_get es i ≡ Some e → BreadthFirst pair_links es → Upto pair_links es i 0 → (n : ℕ) → Listing live e i n es (with_nexts A B live e.first e.second i n es)
+    listing es reached at ordered upto zero = record { further = further_same es; reached = reached; added = λ a s u low. absurd (omega arith); ordered = ordered; upto = upto }
+    listing es reached at ordered upto (suc n) =
         let fs = with_nexts A B live e.first e.second i n es in
-        let before = listing es reached at n in
-        let next = one fs before.reached (before.further.entries i e at) n (live n) (A.next e.first n) (B.next e.second n) refl refl refl in
+        let before = listing es reached at ordered upto n in
+        let next = one fs before.reached (before.further.entries i e at) n before.ordered before.upto (live n) (A.next e.first n) (B.next e.second n) refl refl refl in
         record {
           further = further_on es fs _ before.further next.0;
           reached = next.1;
@@ -120,6 +135,8 @@ module _ (A B : Automaton) where
               (λ earlier. next.0.pairs s u (before.added a s u earlier alive first second))
               (λ last. next.2 s u (subst (λ (k : ℕ). live k ≡ true) last alive) (subst (λ (k : ℕ). A.next e.first k ≡ Some s) last first) (subst (λ (k : ℕ). B.next e.second k ≡ Some u) last second))
               (below a n low);
+          ordered = next.3.0;
+          upto = next.3.1;
         }
       where
         below : (a n : ℕ) → a < suc n → (a < n) ⊎ (a ≡ n)

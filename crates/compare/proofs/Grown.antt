@@ -9,6 +9,7 @@ use Rattle.schema.specs.Live.{Live, LiveSymbol, LivePath}
 use Rattle.schema.specs.Tables.{Tables, transition_byte, automaton}
 use Rattle.schema.proofs.Onward.{live_next}
 use Rattle.schema.proofs.Sound.{first_none, under}
+use Rattle.search.proofs.Paths.{word_at_first}
 use Rattle.search.proofs.Places.{nth_inside}
 use Rattle.compare.specs.declared.pairs.Listed.{Listed}
 use Rattle.compare.specs.declared.phase.Kind.{Kind}
@@ -17,10 +18,11 @@ use Rattle.compare.specs.declared.phase.Phase.TheVariants as phase
 use Rattle.compare.specs.declared.phase.Verdict.TheVariants as verdict
 use Rattle.compare.specs.Breaking.{Broken, Unbroken, Closed, ToldApart}
 use Rattle.compare.specs.Growing.{Path, SameAutomata, settled, Reached, Rooted, Passed, LastBroken, Stands, Grown, BeginsGrown, StepsGrown, ConcludesGrown, GrownSame, IncludedCarries, ApartTells}
-use Rattle.compare.specs.Pairs.{blank, listed}
+use Rattle.compare.specs.Listing.{pair_links}
+use Rattle.compare.specs.Pairs.{start, listed}
 use Rattle.compare.specs.Stepping.{with_nexts, examined_to, going_on, Turn, Turns, step_kept_from}
 use Rattle.compare.specs.Trailing.{broken_index}
-use Rattle.compare.specs.Work.{Work, said, start, begun}
+use Rattle.compare.specs.Work.{Work, said, begun}
 use Rattle.compare.proofs.Allowing.{allows}
 use Rattle.compare.proofs.Closed.{closed_carries}
 use Rattle.compare.proofs.Goings.{none_left, one_left}
@@ -51,6 +53,8 @@ module _ (A B : Automaton) where
         reached = g.reached;
         examined = λ i e low there. g.examined i e (subst (λ (p : Phase). i < settled p w.examined) (sym runs) (subst (λ (n : ℕ). i < n) (sym last) low)) there;
         stands = record { some = omega arith; pair = pair; at = subst (λ (n : ℕ). slice_get w.pairs n ≡ Some pair) last at; broken = broken };
+        ordered = g.ordered;
+        led = λ i e above there. omega (arith, g.led i e above there);
       }
 
   -- an unbroken pair, where these symbols hold all that are live at its first state
@@ -58,8 +62,11 @@ module _ (A B : Automaton) where
     abbrev es : List Listed
     es = with_nexts A B live pair.first pair.second w.examined w.symbols w.pairs
 
-    abbrev told : Listing A B live pair w.symbols w.pairs es
-    told = listing A B live pair exact w.examined w.pairs g.reached at w.symbols
+    abbrev told : Listing A B live pair w.examined w.symbols w.pairs es
+    told = listing A B live pair exact w.examined w.pairs g.reached at g.ordered (λ k e above there. inl (g.led k e above there)) w.symbols
+
+    led_on : (i : ℕ) (e : Listed) → 0 < i → slice_get es i ≡ Some e → e.parent < w.examined + 1
+    led_on i e above there = ⊎_elim (λ low. omega (arith, low)) (λ here. omega (arith, here.0)) (told.upto i e above there)
 
     rooted_on : Rooted A B es
     rooted_on =
@@ -88,7 +95,7 @@ module _ (A B : Automaton) where
         (cases_lt i w.examined)
 
     grown_as : (p : Phase) → settled p (w.examined + 1) ≡ w.examined + 1 → Stands A B (examined_to w es p) p → Grown A B (examined_to w es p)
-    grown_as p all stands = record { rooted = rooted_on; reached = told.reached; examined = λ i e early there. passed_on i e (subst (λ (n : ℕ). i < n) all early) there; stands = stands }
+    grown_as p all stands = record { rooted = rooted_on; reached = told.reached; examined = λ i e early there. passed_on i e (subst (λ (n : ℕ). i < n) all early) there; stands = stands; ordered = told.ordered; led = led_on }
 
     turn_unbroken : Grown A B (examined_to w es (going_on (w.examined + 1) es))
     turn_unbroken =
@@ -134,12 +141,33 @@ steps_grown T U sets others claim n slots a answer a' (none, on) g =
 
 module _ (A B : Automaton) where
   reached_start : Reached A B (start ∷ [])
-  reached_start zero e at = ([], refl, ap (λ (x : Listed). x.first) (same_Some _ _ at), ap (λ (x : Listed). x.second) (same_Some _ _ at))
+  reached_start zero e at = ([], word_at_first pair_links (start ∷ []), ap (λ (x : Listed). x.first) (same_Some _ _ at), ap (λ (x : Listed). x.second) (same_Some _ _ at))
   reached_start (suc i) e at = absurd (none-some _ at)
 
+  -- there is no pair but the first
+  start_alone : (i : ℕ) (e : Listed) → 0 < i → slice_get (start ∷ []) i ≡ Some e → ⊥
+  start_alone zero e above at = omega arith
+  start_alone (suc i) e above at = none-some _ at
+
   begun_grown : (w : Work) (T U : Tables) (b : Bool) → Decides b (Live A 0) → Grown A B (begun w T U b)
-  begun_grown w T U true exact = record { rooted = inl (exact.0 refl, refl); reached = reached_start; examined = λ i e low. absurd (omega arith); stands = omega arith }
-  begun_grown w T U false exact = record { rooted = inr (λ live. absurd (false≢true (exact.1 live)), refl); reached = λ i e at. absurd (none-some _ at); examined = λ i e low. absurd (omega arith); stands = refl }
+  begun_grown w T U true exact =
+      record {
+        rooted = inl (exact.0 refl, refl);
+        reached = reached_start;
+        examined = λ i e low. absurd (omega arith);
+        stands = omega arith;
+        ordered = λ i j e f above up at. absurd (start_alone i e above at);
+        led = λ i e above at. absurd (start_alone i e above at);
+      }
+  begun_grown w T U false exact =
+      record {
+        rooted = inr (λ live. absurd (false≢true (exact.1 live)), refl);
+        reached = λ i e at. absurd (none-some _ at);
+        examined = λ i e low. absurd (omega arith);
+        stands = refl;
+        ordered = λ i j e f above up at. absurd (none-some _ at);
+        led = λ i e above at. absurd (none-some _ at);
+      }
 
 pub begins_grown : BeginsGrown
 unfolding BeginsGrown
@@ -157,6 +185,8 @@ concludes_grown A B a claim k n apart a' (none, is) g =
       reached = g.reached;
       examined = λ i e low. g.examined i e (subst (λ (p : Phase). i < settled p w.examined) (sym is.0) low);
       stands = record { some = last.some; pair = last.pair; at = last.at; broken = last.broken };
+      ordered = g.ordered;
+      led = g.led;
     })
 
 module _ (A B : Automaton) where
@@ -175,8 +205,8 @@ module _ (A B : Automaton) where
       pair : (p q : ℕ) → listed es p q ≡ true → Says es p q
       pair p q there =
           let at = listed_tells es p q there in
-          let passed = each at.0 (get_or es at.0 blank) (slice_get-get_or es at.0 blank at.1) in
-          subst (λ (r : ℕ). Says es r q) at.2 (subst (Says es (get_or es at.0 blank).first) at.3 (passed.unbroken, passed.onward))
+          let passed = each at.0 (get_or es at.0 start) (slice_get-get_or es at.0 start at.1) in
+          subst (λ (r : ℕ). Says es r q) at.2 (subst (Says es (get_or es at.0 start).first) at.3 (passed.unbroken, passed.onward))
 
   live_along : (w : List ℕ) (p s : ℕ) → Live A p → LivePath A p w s → Live A s
   live_along [] p s live path = subst (Live A) path live

@@ -8,7 +8,9 @@ pub mod Goings
 pub mod Grown
 pub mod Growing
 pub mod Keeping
+pub mod Laws
 pub mod Nexts
+pub mod Ordering
 pub mod Outcomes
 pub mod Sought
 pub mod Standing

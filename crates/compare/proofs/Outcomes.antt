@@ -3,7 +3,6 @@ use Rattle.std.proofs.Common.{◌≡◌, ℕ, Bool, true, false, cond, List, Som
 use Rattle.std.proofs.lemmas.Option.{none-some, same_Some}
 use Rattle.refusal.specs.declared.fault.Refusal.{Refusal}
 use Rattle.compare.specs.declared.area.Area.{Area}
-use Rattle.compare.specs.declared.claim.Apart.{Apart}
 use Rattle.compare.specs.declared.claim.Lease.{Lease}
 use Rattle.compare.specs.declared.claim.Numbers.{Numbers}
 use Rattle.compare.specs.declared.conclude.Concluded.{Concluded}
@@ -72,22 +71,22 @@ one_conclusion a claim (Ok r) (Err f) b c first second = absurd (none-some _ (sy
 one_conclusion a claim (Err e) (Ok s) b c first second = absurd (none-some _ (sym second.0 ∙ first.0))
 one_conclusion a claim (Err e) (Err f) b c first second = (one_refusal claim _ e f first.0 first.1 second.0 second.1, first.2 ∙ sym second.2)
 
-pub one_giving_up : (S : Type 0) → OneGivingUp S
+pub one_giving_up : OneGivingUp
 unfolding OneGivingUp
-one_giving_up S a claim (Ok n) (Ok m) b c first second = by (held_by (said a) claim.numbers.serial) first.1 second.1
+one_giving_up a claim (Ok n) (Ok m) b c first second = by (held_by (said a) claim.serial) first.1 second.1
   where
-    by : (h : Bool) → cond h ((n ≡ 1) × (said b ≡ free a.number a.serial)) ((n ≡ 0) × (b ≡ a)) → cond h ((m ≡ 1) × (said c ≡ free a.number a.serial)) ((m ≡ 0) × (c ≡ a)) → (◌≡◌ {A = Result ℕ (Refusal × Lease S)} (Ok n) (Ok m)) × (b ≡ c)
+    by : (h : Bool) → cond h ((n ≡ 1) × (said b ≡ free a.number a.serial)) ((n ≡ 0) × (b ≡ a)) → cond h ((m ≡ 1) × (said c ≡ free a.number a.serial)) ((m ≡ 0) × (c ≡ a)) → (◌≡◌ {A = Result ℕ Refusal} (Ok n) (Ok m)) × (b ≡ c)
     by true f g = (ap Ok (f.0 ∙ sym g.0), said_determines b c (f.1 ∙ sym g.1))
     by false f g = (ap Ok (f.0 ∙ sym g.0), f.1 ∙ sym g.1)
-one_giving_up S a claim (Ok n) (Err f) b c first second = absurd (none-some _ (sym first.0 ∙ second.0))
-one_giving_up S a claim (Err e) (Ok m) b c first second = absurd (none-some _ (sym second.0 ∙ first.0))
-one_giving_up S a claim (Err e) (Err f) b c first second = (ap Err (one_refusal claim _ e f first.0 first.1 second.0 second.1), first.2 ∙ sym second.2)
+one_giving_up a claim (Ok n) (Err f) b c first second = absurd (none-some _ (sym first.0 ∙ second.0))
+one_giving_up a claim (Err e) (Ok m) b c first second = absurd (none-some _ (sym second.0 ∙ first.0))
+one_giving_up a claim (Err e) (Err f) b c first second = (ap Err (same_Some _ _ (sym first.0 ∙ second.0)), first.1 ∙ sym second.1)
 
-one_answer : (w : Work) (claim : Lease Apart) (output v : List ℕ) (r s : Result (ℕ × Lease Apart) (Refusal × Lease Apart)) (one other : List ℕ) → TrailAnswer w claim output v r one → TrailAnswer w claim output v s other → (r ≡ s) × (one ≡ other)
-one_answer w claim output v (Ok r) (Ok s) one other f g = (λ i. Ok ((f.1 ∙ sym g.1) i, (f.2 ∙ sym g.2) i), f.3 ∙ sym g.3)
-one_answer w claim output v (Ok r) (Err t) one other f g = absurd (none-some _ (sym f.0 ∙ g.0))
-one_answer w claim output v (Err e) (Ok s) one other f g = absurd (none-some _ (sym g.0 ∙ f.0))
-one_answer w claim output v (Err e) (Err t) one other f g = (ap Err (one_refusal claim _ e t f.0 f.1 g.0 g.1), f.2 ∙ sym g.2)
+one_answer : (w : Work) (claim : Numbers) (output v : List ℕ) (r s : Result ℕ Refusal) (one other : List ℕ) → TrailAnswer w claim output v r one → TrailAnswer w claim output v s other → (r ≡ s) × (one ≡ other)
+one_answer w claim output v (Ok n) (Ok m) one other f g = (ap Ok (f.1 ∙ sym g.1), f.2 ∙ sym g.2)
+one_answer w claim output v (Ok n) (Err t) one other f g = absurd (none-some _ (sym f.0 ∙ g.0))
+one_answer w claim output v (Err e) (Ok m) one other f g = absurd (none-some _ (sym g.0 ∙ f.0))
+one_answer w claim output v (Err e) (Err t) one other f g = (ap Err (same_Some _ _ (sym f.0 ∙ g.0)), f.1 ∙ sym g.1)
 
 pub one_trailing : OneTrailing
 unfolding OneTrailing

@@ -6,37 +6,43 @@ use Rattle.refusal.specs.declared.fault.Fault.TheVariants.{Foreign, Ousted}
 use Rattle.refusal.specs.declared.fault.Refusal.{Refusal}
 use Rattle.refusal.specs.Order.{first_of}
 use Rattle.schema.specs.Faults.{either_fault}
-use Rattle.compare.specs.declared.claim.Apart.{Apart}
 use Rattle.compare.specs.declared.claim.Comparing.{Comparing}
 use Rattle.compare.specs.declared.claim.Lease.{Lease}
 use Rattle.compare.specs.declared.claim.Numbers.{Numbers}
 use Rattle.compare.specs.declared.conclude.Concluded.{Concluded}
 use Rattle.compare.specs.declared.event.Event.{Event}
-use Rattle.compare.specs.declared.event.Event.TheVariants.{Step, Conclude, Write}
+use Rattle.compare.specs.declared.event.Event.TheVariants.{Conclude, Write}
 use Rattle.compare.specs.Concluding.{claim_refusal, Conclusion, GivingUp}
-use Rattle.compare.specs.Refusals.{other_symbols, phase_refuses, where_found}
-use Rattle.compare.specs.Stepping.{step_refusal, Stepping}
+use Rattle.compare.specs.Refusals.{other_symbols, phase_refuses, where_found, held_kept_from}
+use Rattle.compare.specs.Stepping.{step_kept_from, step_refusal, Stepping}
 use Rattle.compare.specs.Strangers.{is_holder, stranger, StepOfStranger, ConclusionOfStranger, TrailOfStranger, GivingUpOfStranger}
 use Rattle.compare.specs.Trailing.{no_room, trail_refusal, TrailAnswer}
 use Rattle.compare.specs.Work.{Work, said, held_by}
+use Rattle.compare.proofs.Tests.{holder_refused, held_refused}
 
 -- what is asked with numbers that are not the holder's is refused
 pub claim_refused : (w : Work) (n : Numbers) (e : Event) → is_holder w n ≡ false → claim_refusal w n e ≡ Some (stranger w n)
-claim_refused w n e other = by (eqb n.area w.number) (held_by w n.serial) other
-  where
-    by : (s h : Bool) → (s && h) ≡ false → first_of (where_found (not s) w Foreign ∷ where_found (not h) w Ousted ∷ phase_refuses w e ∷ []) ≡ Some (record { fault = cond s Ousted Foreign; place = w.serial })
-    by true true other = absurd (both_ways true other refl)
-    by true false other = refl
-    by false h other = refl
+claim_refused w n e other = ap (λ (o : Option Refusal). first_of (o ∷ phase_refuses w e ∷ [])) (holder_refused w n other)
 
--- a refusal that is found third
-third : (o p q : Option Refusal) (rest : List (Option Refusal)) (x : Refusal) → q ≡ Some x → first_of (o ∷ first_of (p ∷ q ∷ rest) ∷ []) ≡ first_of (o ∷ p ∷ Some x ∷ [])
-third (Some e) p q rest x is = refl
-third None (Some e) q rest x is = refl
-third None None q rest x is = ap (λ (r : Option Refusal). first_of (first_of (r ∷ rest) ∷ [])) is
+-- what is found among the first tests is found of more behind them
+pub found_within : (p q : Option Refusal) (x : Refusal) (rest : List (Option Refusal)) → q ≡ first_of (p ∷ Some x ∷ []) → first_of (q ∷ rest) ≡ first_of (p ∷ Some x ∷ [])
+found_within p q x rest is = ap (λ (r : Option Refusal). first_of (r ∷ rest)) is ∙ by p
+  where
+    by : (p : Option Refusal) → first_of (first_of (p ∷ Some x ∷ []) ∷ rest) ≡ first_of (p ∷ Some x ∷ [])
+    by (Some e) = refl
+    by None = refl
+
+-- and behind a test more
+pub found_third : (o p q : Option Refusal) (x : Refusal) → q ≡ first_of (p ∷ Some x ∷ []) → first_of (o ∷ q ∷ []) ≡ first_of (o ∷ p ∷ Some x ∷ [])
+found_third o p q x is = ap (λ (r : Option Refusal). first_of (o ∷ r ∷ [])) is ∙ by o p
+  where
+    by : (o p : Option Refusal) → first_of (o ∷ first_of (p ∷ Some x ∷ []) ∷ []) ≡ first_of (o ∷ p ∷ Some x ∷ [])
+    by (Some e) p = refl
+    by None (Some e) = refl
+    by None None = refl
 
 -- something is found
-some_found : (o p : Option Refusal) (x : Refusal) → first_of (o ∷ p ∷ Some x ∷ []) ≡ None → ⊥
+pub some_found : (o p : Option Refusal) (x : Refusal) → first_of (o ∷ p ∷ Some x ∷ []) ≡ None → ⊥
 some_found (Some e) p x none = none-some _ (sym none)
 some_found None (Some e) x none = none-some _ (sym none)
 some_found None None x none = none-some _ (sym none)
@@ -49,7 +55,7 @@ step_of_stranger T U sets others claim n slots a r a' is other = by r is
     w = said a
 
     same : step_refusal w T U claim n slots ≡ first_of (either_fault T U ∷ other_symbols w T U ∷ Some (stranger w claim) ∷ [])
-    same = third (either_fault T U) (other_symbols w T U) (claim_refusal w claim Step) _ (stranger w claim) (claim_refused w claim Step other)
+    same = found_third (either_fault T U) (other_symbols w T U) (step_kept_from w T U claim n slots) (stranger w claim) (found_within (other_symbols w T U) (held_kept_from w T U claim) (stranger w claim) _ (held_refused w claim T U other))
 
     by : (r : Result (ℕ × ℕ) Refusal) → Stepping T U sets others claim n slots a r a' → (e : Refusal) × (r ≡ Err e) × (first_of (either_fault T U ∷ other_symbols w T U ∷ Some (stranger w claim) ∷ []) ≡ Some e) × (a' ≡ a)
     by (Ok answer) is = absurd (some_found (either_fault T U) (other_symbols w T U) (stranger w claim) (sym same ∙ is.0))
@@ -80,32 +86,32 @@ trail_of_stranger a claim output r output' (v, trail, is) other = by r is
     w : Work
     w = said a
 
-    so : trail_refusal w claim output v ≡ Some (stranger w claim.numbers)
-    so = ap (λ (o : Option Refusal). first_of (o ∷ no_room output v ∷ [])) (claim_refused w claim.numbers Write other)
+    so : trail_refusal w claim output v ≡ Some (stranger w claim)
+    so = ap (λ (o : Option Refusal). first_of (o ∷ no_room output v ∷ [])) (claim_refused w claim Write other)
 
-    by : (r : Result (ℕ × Lease Apart) (Refusal × Lease Apart)) → TrailAnswer w claim output v r output' → (r ≡ Err (stranger w claim.numbers, claim)) × (output' ≡ output)
-    by (Ok x) is = absurd (none-some _ (sym is.0 ∙ so))
-    by (Err e) is = (refused w claim.numbers claim _ e so is.0 is.1, is.2)
+    by : (r : Result ℕ Refusal) → TrailAnswer w claim output v r output' → (r ≡ Err (stranger w claim)) × (output' ≡ output)
+    by (Ok n) is = absurd (none-some _ (sym is.0 ∙ so))
+    by (Err e) is = (ap Err (same_Some _ _ (sym is.0 ∙ so)), is.1)
 
-pub giving_up_of_stranger : (S : Type 0) → GivingUpOfStranger S
+pub giving_up_of_stranger : GivingUpOfStranger
 unfolding GivingUpOfStranger
-giving_up_of_stranger S a claim r a' is other = by r is
+giving_up_of_stranger a claim r a' is other = by r is
   where
     w : Work
     w = said a
 
-    no : Result ℕ (Refusal × Lease S)
-    no = Err (stranger w claim.numbers, claim)
+    no : Result ℕ Refusal
+    no = Err (stranger w claim)
 
     given : (s h : Bool) (n : ℕ) (freed : Type 0) → (s && h) ≡ false → where_found (not s) w Foreign ≡ None → cond h freed ((n ≡ 0) × (a' ≡ a)) → (Ok n ≡ cond s (Ok 0) no) × (a' ≡ a)
     given true true n freed other near is = absurd (both_ways true other refl)
     given true false n freed other near is = (ap Ok is.0, is.1)
     given false h n freed other near is = absurd (none-some _ (sym near))
 
-    kept : (s : Bool) (e : Refusal × Lease S) → where_found (not s) w Foreign ≡ Some e.0 → e.1 ≡ claim → ◌≡◌ {A = Result ℕ (Refusal × Lease S)} (Err e) (cond s (Ok 0) (Err (record { fault = cond s Ousted Foreign; place = w.serial }, claim)))
-    kept true e far back = absurd (none-some _ far)
-    kept false e far back = let first = same_Some _ _ (sym far) in λ i. Err (first i, back i)
+    kept : (s : Bool) (e : Refusal) → where_found (not s) w Foreign ≡ Some e → ◌≡◌ {A = Result ℕ Refusal} (Err e) (cond s (Ok 0) (Err (record { fault = cond s Ousted Foreign; place = w.serial })))
+    kept true e far = absurd (none-some _ far)
+    kept false e far = ap Err (same_Some _ _ (sym far))
 
-    by : (r : Result ℕ (Refusal × Lease S)) → GivingUp a claim r a' → (r ≡ cond (eqb claim.numbers.area a.number) (Ok 0) no) × (a' ≡ a)
-    by (Ok n) is = given (eqb claim.numbers.area a.number) (held_by w claim.numbers.serial) n _ other is.0 is.1
-    by (Err e) is = (kept (eqb claim.numbers.area a.number) e is.0 is.1, is.2)
+    by : (r : Result ℕ Refusal) → GivingUp a claim r a' → (r ≡ cond (eqb claim.area a.number) (Ok 0) no) × (a' ≡ a)
+    by (Ok n) is = given (eqb claim.area a.number) (held_by w claim.serial) n _ other is.0 is.1
+    by (Err e) is = (kept (eqb claim.area a.number) e is.0, is.1)

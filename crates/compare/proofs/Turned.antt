@@ -1,10 +1,9 @@
 -- Turns have one outcome, but for the kind of a pair that is broken in both ways, and so has a step. Assumes nothing.
-use Rattle.std.proofs.Common.{◌≡◌, ℕ, zero, suc, ◌+◌, ◌-◌, ◌<◌, ◌≤◌, Bool, cond, ◌⊎◌, Some, Ok, Err, Decides, sym, ap, ◌∙◌, subst, inl, inr, ⊎_elim, arith}
+use Rattle.std.proofs.Common.{◌≡◌, ℕ, zero, suc, ◌+◌, ◌-◌, ◌<◌, ◌≤◌, Bool, cond, ◌⊎◌, Some, Ok, Err, sym, ap, ◌∙◌, subst, inl, inr, ⊎_elim, arith}
 use Rattle.std.specs.List.{slice_get}
 use Rattle.std.proofs.lemmas.Bool.{both_ways, cases_eq, cases_order}
 use Rattle.std.proofs.lemmas.Option.{none-some, same_Some}
 use Rattle.schema.specs.Automata.{Automaton, allowed}
-use Rattle.schema.specs.Live.{LiveSymbol}
 use Rattle.schema.specs.Tables.{automaton}
 use Rattle.compare.specs.declared.pairs.Listed.{Listed}
 use Rattle.compare.specs.declared.phase.Kind.{Kind}
@@ -14,7 +13,7 @@ use Rattle.compare.specs.declared.phase.Verdict.TheVariants as verdict
 use Rattle.compare.specs.Breaking.{Broken, Unbroken}
 use Rattle.compare.specs.Growing.{LastBroken}
 use Rattle.compare.specs.Outcomes.{ButForKind, OneStepping}
-use Rattle.compare.specs.Stepping.{with_nexts, examined_to, going_on, Turn, Turns, Stepped, StepsOn, is_running}
+use Rattle.compare.specs.Stepping.{examined_to, after_unbroken, ExaminesBroken, ExaminesUnbroken, Turn, Turns, Stepped, StepsOn, is_running}
 use Rattle.compare.specs.Work.{Work, said, in_phase}
 use Rattle.compare.proofs.Outcomes.{same_decision}
 
@@ -31,14 +30,8 @@ module _ (A B : Automaton) where
       last : w.examined ≡ w.examined + 1 - 1
       last = omega arith
 
-  -- what an unbroken pair leaves
-  abbrev on : Work → Listed → (ℕ → Bool) → Work
-  on w pair live =
-      let es = with_nexts A B live pair.first pair.second w.examined w.symbols w.pairs in
-      examined_to w es (going_on (w.examined + 1) es)
-
   abbrev Outcome : Work → Listed → Work → Type 0
-  Outcome w pair v = ((k : Kind) × Broken A B k pair.first pair.second × (v ≡ examined_to w w.pairs (phase.Ready (verdict.Apart k)))) ⊎ (Unbroken A B pair.first pair.second × ((live : ℕ → Bool) × ((a : ℕ) → Decides (live a) (LiveSymbol A pair.first a)) × (v ≡ on w pair live)))
+  Outcome w pair v = ExaminesBroken A B w pair v ⊎ ExaminesUnbroken A B w pair v
 
   one_outcome : (w : Work) (pair : Listed) (v u : Work) → slice_get w.pairs w.examined ≡ Some pair → Outcome w pair v → Outcome w pair u → ButForKind A B v u
   one_outcome w pair v u at (inl (k, broken, is)) (inl (l, other, also)) =
@@ -47,7 +40,7 @@ module _ (A B : Automaton) where
   one_outcome w pair v u at (inr (whole, (live, exact, is))) (inl (l, other, also)) = absurd (broken_or_not l pair.first pair.second other whole)
   one_outcome w pair v u at (inr (whole, (live, exact, is))) (inr (too, (alive, certain, also))) =
       let same : (a : ℕ) → live a ≡ alive a = λ a. same_decision (live a) (alive a) (exact a) (certain a) in
-      let left : on w pair live ≡ on w pair alive = λ i. on w pair (λ a. same a i) in
+      let left : after_unbroken A B w pair live ≡ after_unbroken A B w pair alive = λ i. after_unbroken A B w pair (λ a. same a i) in
       inl (also ∙ sym left ∙ sym is)
 
   one_turn : (w v u : Work) → Turn A B w v → Turn A B w u → ButForKind A B v u

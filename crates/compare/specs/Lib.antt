@@ -1,8 +1,11 @@
 pub mod Beginning
 pub mod Breaking
+pub mod Claims
 pub mod Concluding
 pub mod Deciding
+pub mod Examining
 pub mod Growing
+pub mod Laws
 pub mod Listing
 pub mod Outcomes
 pub mod Pairs

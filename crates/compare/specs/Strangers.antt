@@ -6,7 +6,6 @@ use Rattle.refusal.specs.Order.{first_of}
 use Rattle.schema.specs.Faults.{either_fault}
 use Rattle.schema.specs.Tables.{Tables}
 use Rattle.compare.specs.declared.area.Area.{Area}
-use Rattle.compare.specs.declared.claim.Apart.{Apart}
 use Rattle.compare.specs.declared.claim.Comparing.{Comparing}
 use Rattle.compare.specs.declared.claim.Lease.{Lease}
 use Rattle.compare.specs.declared.claim.Numbers.{Numbers}
@@ -21,23 +20,39 @@ use Rattle.compare.specs.Work.{Work, said, held_by}
 abbrev pub is_holder : Work → Numbers → Bool
 is_holder w n = n.area == w.number && held_by w n.serial
 
--- the refusal of numbers that are not the holder's: `foreign` where they are of another area, and else `ousted`
+-- the refusal of numbers that are not the holder's: `foreign` where they are of another area, and else
+-- `ousted`
 abbrev pub stranger : Work → Numbers → Refusal
 stranger w n = record { fault = cond (n.area == w.number) Ousted Foreign; place = w.serial }
 
 -- a step is refused: by a fault of the schemas, by `symbols`, or as a stranger's; the area stays as it was
 unfoldable pub StepOfStranger : Type 0
 StepOfStranger =
-    (T U : Tables) (sets others : List (ℕ → Bool)) (claim : Numbers) (n slots : ℕ) (a : Area) (r : Result (ℕ × ℕ) Refusal) (a' : Area) → Stepping T U sets others claim n slots a r a' → is_holder (said a) claim ≡ false → (e : Refusal) × (r ≡ Err e) × (first_of (either_fault T U ∷ other_symbols (said a) T U ∷ Some (stranger (said a) claim) ∷ []) ≡ Some e) × (a' ≡ a)
+    (T U : Tables) (sets others : List (ℕ → Bool)) (claim : Numbers) (n slots : ℕ)
+    (a : Area) (r : Result (ℕ × ℕ) Refusal) (a' : Area)
+    → Stepping T U sets others claim n slots a r a' → is_holder (said a) claim ≡ false → (e : Refusal)
+    × (r ≡ Err e)
+    × (first_of (either_fault T U ∷ other_symbols (said a) T U ∷ Some (stranger (said a) claim) ∷ [])
+    ≡ Some e)
+    × (a' ≡ a)
 
 -- a conclusion is refused, and hands back the claim; the area stays as it was
 unfoldable pub ConclusionOfStranger : Type 0
-ConclusionOfStranger = (a : Area) (claim : Lease Comparing) (r : Result Concluded (Refusal × Lease Comparing)) (a' : Area) → Conclusion a claim r a' → is_holder (said a) claim.numbers ≡ false → (r ≡ Err (stranger (said a) claim.numbers, claim)) × (a' ≡ a)
+ConclusionOfStranger =
+    (a : Area) (claim : Lease Comparing) (r : Result Concluded (Refusal × Lease Comparing)) (a' : Area)
+    → Conclusion a claim r a' → is_holder (said a) claim.numbers ≡ false
+    → (r ≡ Err (stranger (said a) claim.numbers, claim)) × (a' ≡ a)
 
--- a trail is refused, and hands back the claim; the output stays as it was
+-- a trail is refused; the output stays as it was
 unfoldable pub TrailOfStranger : Type 0
-TrailOfStranger = (a : Area) (claim : Lease Apart) (output : List ℕ) (r : Result (ℕ × Lease Apart) (Refusal × Lease Apart)) (output' : List ℕ) → Trailing a claim output r output' → is_holder (said a) claim.numbers ≡ false → (r ≡ Err (stranger (said a) claim.numbers, claim)) × (output' ≡ output)
+TrailOfStranger =
+    (a : Area) (claim : Numbers) (output : List ℕ) (r : Result ℕ Refusal) (output' : List ℕ)
+    → Trailing a claim output r output' → is_holder (said a) claim ≡ false
+    → (r ≡ Err (stranger (said a) claim)) × (output' ≡ output)
 
--- giving up a claim of this area answers 0, and one of another area is refused and handed back; the area stays as it was
-unfoldable pub GivingUpOfStranger : Type 0 → Type 0
-GivingUpOfStranger S = (a : Area) (claim : Lease S) (r : Result ℕ (Refusal × Lease S)) (a' : Area) → GivingUp a claim r a' → is_holder (said a) claim.numbers ≡ false → (r ≡ cond (claim.numbers.area == a.number) (Ok 0) (Err (stranger (said a) claim.numbers, claim))) × (a' ≡ a)
+-- giving up a claim of this area answers 0, and one of another area is refused; the area stays as it was
+unfoldable pub GivingUpOfStranger : Type 0
+GivingUpOfStranger =
+    (a : Area) (claim : Numbers) (r : Result ℕ Refusal) (a' : Area)
+    → GivingUp a claim r a' → is_holder (said a) claim ≡ false
+    → (r ≡ cond (claim.area == a.number) (Ok 0) (Err (stranger (said a) claim))) × (a' ≡ a)

@@ -4,11 +4,13 @@ use Rattle.schema.specs.Tables.{Tables}
 use Rattle.compare.specs.declared.area.Area.{Area}
 use Rattle.compare.specs.declared.pairs.Listed.{Listed}
 use Rattle.compare.specs.declared.phase.Phase.{Phase}
-use Rattle.compare.specs.declared.phase.Phase.TheVariants.{Free, Running, Ready, Apart}
+use Rattle.compare.specs.declared.phase.Phase.TheVariants.{Free, Running, Ready}
 use Rattle.compare.specs.declared.phase.Verdict.TheVariants.{Included}
 use Rattle.compare.specs.Listing.{entries_of}
+use Rattle.compare.specs.Pairs.{start}
 
--- number and serial; the phase; the symbol count and the two state counts, as noted; the listed pairs, and how many are examined
+-- number and serial; the phase; the symbol count and the two state counts, as noted; the listed pairs, and
+-- how many are examined
 pub record Work : Type 0 where
   pub number : ℕ
   pub serial : ℕ
@@ -34,14 +36,20 @@ said a = record {
 
 -- an area without a comparison: nothing is noted, listed or examined
 abbrev pub free : ℕ → ℕ → Work
-free number serial = record { number = number; serial = serial; phase = Free; symbols = 0; firsts = 0; seconds = 0; pairs = []; examined = 0 }
+free number serial = record {
+  number = number;
+  serial = serial;
+  phase = Free;
+  symbols = 0;
+  firsts = 0;
+  seconds = 0;
+  pairs = [];
+  examined = 0;
+}
 
--- the pair (0, 0), which no pair led to
-abbrev pub start : Listed
-start = record { first = 0; second = 0; parent = 0; symbol = 0 }
-
--- a comparison of two schemas begins: the serial is one higher, the counts are noted, nothing earlier stays; (0, 0) is listed where the
--- first schema's state 0 is live, and otherwise the area is ready with included
+-- a comparison of two schemas begins: the serial is one higher, the counts are noted, nothing earlier
+-- stays; (0, 0) is listed where the first schema's state 0 is live, and otherwise the area is ready with
+-- included
 abbrev pub begun : Work → Tables → Tables → Bool → Work
 begun w T U live = record {
   number = w.number;
@@ -56,14 +64,12 @@ begun w T U live = record {
 
 -- the area with another phase
 abbrev pub in_phase : Work → Phase → Work
-in_phase w p = record { number = w.number; serial = w.serial; phase = p; symbols = w.symbols; firsts = w.firsts; seconds = w.seconds; pairs = w.pairs; examined = w.examined }
+in_phase w p = record w { phase = p }
 
 -- the area has no comparison
 abbrev pub is_free : Phase → Bool
 is_free Free = true
-is_free Running = false
-is_free (Ready v) = false
-is_free (Apart k) = false
+is_free p = false
 
 -- the claim with the serial, of this area, is the holder: there is a comparison, and the claim is of it
 abbrev pub held_by : Work → ℕ → Bool

@@ -1,14 +1,13 @@
 //! The trail to the broken pair of a comparison that came out apart.
 ghost use Rattle.std.specs.Prelude.{◌≡◌, ℕ, ◌≤◌, List, length};
-ghost use Rattle.compare.specs.Deciding.{TrailsAsDecided, TrailNotEarly};
+ghost use Rattle.compare.specs.Claims.{less_claim, ComesBack};
+ghost use Rattle.compare.specs.Laws.{TrailLaws};
 ghost use Rattle.compare.specs.Listing.{entries_of};
-ghost use Rattle.compare.specs.Outcomes.{OneTrailing};
-ghost use Rattle.compare.specs.Strangers.{TrailOfStranger};
-ghost use Rattle.compare.specs.Trailing.{Trail, Trailing, TrailWritten, OneTrail, EveryTrail, led_to, broken_index};
+ghost use Rattle.compare.specs.Trailing.{Trail, Trailing, TrailWritten, led_to, broken_index};
 ghost use Rattle.compare.specs.Work.{said};
 
 use crate::area::Area;
-use crate::claim::ApartClaim;
+use crate::claim::{ConcludedApart, Lease};
 use crate::event::Event;
 use crate::pairs::{Listed, Pairs};
 use refusal::fault::{Fault, Refusal};
@@ -34,7 +33,8 @@ fn trail_length(pairs: &Pairs, index: usize) -> usize
     }
 }
 
-/// Writes the trail of a listed pair at the output's front, where it has room, and gives the place after it.
+/// Writes the trail of a listed pair at the output's front, where it has room, and gives the place
+/// after it.
 fn write_trail(pairs: &Pairs, index: usize, output: &mut [u8]) -> usize
     ensures most { result ≤ index }
     ensures written { TrailWritten (entries_of pairs.now) index output.old result output.new }
@@ -61,19 +61,15 @@ pub(crate) fn broken_index(area: &Area) -> usize
 
 /// Writes the symbols that lead from the pair (0, 0) to the broken pair at the output's front, a byte each, and tells how many. Or `foreign`,
 /// `ousted`, `early` or `room`. The claim comes back either way.
-#[tactic(auto, using(crate::proofs::Trails::one_trail, crate::proofs::Trails::every_trail, crate::proofs::Strangers::trail_of_stranger, crate::proofs::Outcomes::one_trailing, crate::proofs::Deciding::trails_as_decided, crate::proofs::Deciding::trail_not_early))]
-pub fn trail(
+#[tactic(auto, using(crate::proofs::Laws::trail_laws))]
+pub fn trail<S: ConcludedApart>(
     area: &Area,
-    claim: ApartClaim,
+    claim: Lease<S>,
     output: &mut [u8],
-) -> Result<(usize, ApartClaim), (Refusal, ApartClaim)>
-    ensures outcome { Trailing area.now claim output.old result output.new }
-    ensures one { OneTrail }
-    ensures every { EveryTrail }
-    ensures stranger { TrailOfStranger }
-    ensures answer { OneTrailing }
-    ensures table { TrailsAsDecided }
-    ensures early { TrailNotEarly }
+) -> Result<(usize, Lease<S>), (Refusal, Lease<S>)>
+    ensures outcome { Trailing area.now claim.numbers output.old (less_claim result) output.new }
+    ensures back { ComesBack claim result }
+    ensures laws { TrailLaws }
 {
     // no `?`: the claim goes back with the refusal
     if let Err(refusal) = area.permits_claim(claim.numbers(), Event::Write) {

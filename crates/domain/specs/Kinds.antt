@@ -4,6 +4,7 @@ use Rattle.bits.specs.Bits.{bit}
 use Rattle.domain.specs.declared.keywords.Keywords.{Keywords}
 use Rattle.domain.specs.declared.coverage.Range.{Range}
 use Rattle.domain.specs.declared.coverage.Coverage.{Coverage}
+use Rattle.domain.specs.declared.joint.TheConstants.{MIDDLE}
 
 -- keywords: the value i, below 64, is a member when bit i is set
 abbrev pub has_keyword : Keywords → ℕ → Bool
@@ -34,6 +35,6 @@ ranges_of c = take c.count c.ranges
 abbrev pub has_letter : Coverage → ℕ → Bool
 has_letter c v = some in_range (ranges_of c) v
 
--- joint: below 2,147,483,648 the left set answers, and from there on the right one, less that number
+-- joint: below the middle the left set answers, and from there on the right one, less the middle
 abbrev pub joined : (ℕ → Bool) → (ℕ → Bool) → ℕ → Bool
-joined left right v = cond (nat_lt v 2147483648) (left v) (right (v - 2147483648))
+joined left right v = cond (nat_lt v MIDDLE) (left v) (right (v - MIDDLE))

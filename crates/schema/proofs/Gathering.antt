@@ -24,7 +24,8 @@ edges_of_led Edge p n before after step leads edge told so =
       only = λ i h. ⊎_elim inl (λ m. inr (m.0, edge m.0 i (sym (told m.0 (Some i) m.1 m.2)))) (so.only i h);
     }
 
--- what a set gathers along edges from a number on: each has the property, which the edges carry over
+-- what a set gathers along edges from a number on: each has the property, which the edges carry
+-- over
 module _ (Edge : ℕ → ℕ → ℕ → Type 0) (Good : ℕ → Type 0) (from : ℕ) where
   -- on the way: the numbers done lead only to numbers reached
   pub record Partly (count reached done : ℕ) : Type 0 where
@@ -123,7 +124,8 @@ module _ (A : Automaton) (q : ℕ) (set : ℕ → Bool) where
       by (Some s) more is to = more s is to
       by None more is to = absurd (none-some i to)
 
-  -- whether a row that was reached may end decides whether some sequence over the set runs from there
+  -- whether a row that was reached may end decides whether some sequence over the set runs from
+  -- there
   pub ends_decide : (count : ℕ) → ((i a j : ℕ) → i < count → A.step q i a ≡ Some j → j < count) → (from rows : ℕ) → from < count → ReachedFrom A q set from rows → Decides (some_below count (λ i. bit rows i && A.ends q i)) (RunsOverFrom A q set from)
   ends_decide count stays from rows inside all = (
     λ found.

@@ -1,4 +1,5 @@
--- A symbol that a sequence holds leads from a row that was reached to one that goes on to an end. Assumes nothing.
+-- A symbol that a sequence holds leads from a row that was reached to one that goes on to an end.
+-- Assumes nothing.
 use Rattle.std.proofs.Common.{◌≡◌, ℕ, ◌<◌, Bool, true, ◌&&◌, List, [], ◌∷◌, ◌++◌, Some, Decides, sym, refl, ap, ◌∙◌, subst}
 use Rattle.std.specs.List.{AllByRecursion}
 use Rattle.std.proofs.ByRecursion.{All-append, All-weaker}

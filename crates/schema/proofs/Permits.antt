@@ -1,4 +1,5 @@
--- Permitted symbols change the next states alone, which stay states, and where all are permitted nothing changes. Assumes nothing.
+-- Permitted symbols change the next states alone, which stay states, and where all are permitted
+-- nothing changes. Assumes nothing.
 use Rattle.std.proofs.Common.{◌≡◌, ℕ, ◌<◌, ◌≤◌, Bool, true, false, cond, not, ◌&&◌, ltb, List, [], ◌∷◌, Some, None, Option, bit_and, sym, refl, ap, ◌∙◌, ⊎_elim, arith}
 use Rattle.std.proofs.Math.Bool.{and-true}
 use Rattle.std.proofs.lemmas.Bool.{and_right, cases_lt, cond-true, cond-false, le-ltb, not-false}

@@ -1,4 +1,5 @@
--- Rounds: what they find accepts a tree, their number is its rank, and where they find nothing more all live states are found. Assumes nothing.
+-- Rounds: what they find accepts a tree, their number is its rank, and where they find nothing more
+-- all live states are found. Assumes nothing.
 use Rattle.std.proofs.Common.{◌≡◌, ℕ, ◌+◌, ◌^◌, ◌<◌, ◌≤◌, Bool, true, false, cond, List, [], ◌∷◌, Some, None, Option, Decides, sym, refl, ap, ◌∙◌, subst, ⊎_elim, arith}
 use lib.Bits.{bit_or, or_lt}
 use Rattle.std.specs.List.{AllByRecursion, slice_get}
@@ -23,7 +24,8 @@ runs_over_same A q r set other same h = (h.0, All-weaker (λ a. set a ≡ true) 
 abbrev Below : Automaton → ℕ → ℕ → Type 0
 Below A m q = (t : Tree) × (accepts A q t ≡ true) × (height t < m)
 
--- after some rounds: the states that accept a tree lower than their number, and at each its rank is noted
+-- after some rounds: the states that accept a tree lower than their number, and at each its rank is
+-- noted
 pub record AfterRounds (A : Automaton) (n live : ℕ) (ranks : List (Option ℕ)) (rounds : ℕ) : Type 0 where
   pub small : live < 2 ^ 64
   pub exact : (q : ℕ) → Decides (bit live q) ((q < n) × Below A rounds q)

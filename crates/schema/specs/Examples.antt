@@ -93,9 +93,12 @@ alone = node 0 none
 abbrev pub above_one : Tree
 above_one = node 0 (child 0 alone none)
 
--- a state that may have no empty sequence and leads only to itself is not live; so the example's state is not
+-- a state that may have no empty sequence and leads only to itself is not live; so the example's
+-- state is not
 pub record LeadsBackDead : Type 0 where
-  pub general : (A : Automaton) (q : ℕ) → A.ends q 0 ≡ false → ((a s : ℕ) → A.next q a ≡ Some s → s ≡ q) → Live A q → ⊥
+  pub general :
+      (A : Automaton) (q : ℕ) → A.ends q 0 ≡ false
+      → ((a s : ℕ) → A.next q a ≡ Some s → s ≡ q) → Live A q → ⊥
   pub example : Live (automaton one_of_two just_zero) 0 → ⊥
 
 -- which of the two trees each of the schemas accepts
@@ -109,7 +112,8 @@ pub record SmallAccepts : Type 0 where
   pub book_alone : accepts (automaton book zero_and_zero) 0 alone ≡ false
   pub book_above : accepts (automaton book zero_and_zero) 0 above_one ≡ true
 
--- which tables pass the test, and at which place the others are refused; of two faults the lower number, of one number the first schema's
+-- which tables pass the test, and at which place the others are refused; of two faults the lower
+-- number, of one number the first schema's
 pub record SmallFaults : Type 0 where
   pub no_child_sound : table_fault no_child ≡ None
   pub first_sound : table_fault any_of_first ≡ None

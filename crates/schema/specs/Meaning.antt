@@ -1,4 +1,5 @@
--- What a tested schema means: its automaton, and how many states and symbols it has. Assumes nothing.
+-- What a tested schema means: its automaton, and how many states and symbols it has. Assumes
+-- nothing.
 use Rattle.std.specs.Prelude.{ℕ, ◌<◌, Bool}
 use Rattle.schema.specs.declared.tested.Tested.{Tested}
 use Rattle.schema.specs.Automata.{Automaton}

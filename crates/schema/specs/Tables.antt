@@ -68,7 +68,8 @@ module _ (T : Tables) where
   abbrev pub row_byte : ℕ → ℕ → ℕ → ℕ
   row_byte q r a = slice_index_or T.row_table (row_start q r + 1 + a) NONE
 
-  -- the automaton that the tables lay out over sets of values; a symbol past the symbol count leads nowhere, and values have 32 bits
+  -- the automaton that the tables lay out over sets of values; a symbol past the symbol count leads
+  -- nowhere, and values have 32 bits
   abbrev pub automaton : List (ℕ → Bool) → Automaton
   automaton domains = record {
     next = λ q a. cond (nat_lt a T.symbols) (entry (transition_byte q a)) None;

@@ -70,7 +70,6 @@ impl<D> Measured<'_, D> {
     }
 
     /// Whether the state has the fault.
-    // A switch: the refusal and its law go by the fault's name, which closures would need beside them, and so be no plainer.
     fn is_wrong(&self, fault: Fault, state: u8) -> bool
         ensures { result ≡ wrong_at (tables self.now.schema) fault state }
     {

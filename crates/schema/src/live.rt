@@ -1,10 +1,10 @@
-//! Which states accept a finite tree, and their ranks. A round finds those that need only states found before it.
+//! Which states accept a finite tree, and their ranks. A round finds those that need only states
+//! found before it.
 ghost use Rattle.std.specs.Prelude.{◌≡◌, ℕ, ◌<◌, IfOk, if◌then◌else◌, Some, Decides, slice_get};
 ghost use Rattle.bits.specs.Bits.{bit};
 ghost use Rattle.domain.specs.Sets.{Smallest};
-ghost use Rattle.schema.specs.Examples.{SmallSchemas};
 ghost use Rattle.schema.specs.Live.{Found, New, Ranked, LiveMask, RankMask};
-ghost use Rattle.schema.specs.Outcome.{LiveAnswer, OneLiveAnswer};
+ghost use Rattle.schema.specs.Outcome.{LiveAnswer, LiveLaws};
 ghost use Rattle.schema.specs.Meaning.{IsState, meaning, meaning_over, states_of};
 ghost use Rattle.schema.specs.Tables.{tables, sets, automaton_of};
 
@@ -19,7 +19,6 @@ use refusal::fault::Refusal;
 pub const ALL_SYMBOLS: u64 = u64::MAX;
 
 /// The live states, one a bit, and the rank of each; none for the others.
-// The mask stays beside the ranks: the rounds grow it as a set, and it is all that `live_over` and `live_states` hand on.
 #[derive(Clone, Copy, Debug, PartialEq, Eq)]
 pub struct Ranks {
     pub live: u64,
@@ -48,7 +47,6 @@ impl<D: Domain> Tested<'_, D> {
     }
 
     /// Whether a state has a value and a sequence of permitted symbols into states of the set.
-    // Two sets, here and in the next: one grows from round to round, the other is the caller's.
     fn is_found(&self, state: u8, live: u64, permitted: u64) -> bool
         ensures { IsState self.now state →
             Decides result
@@ -82,7 +80,8 @@ impl<D: Domain> Tested<'_, D> {
         })
     }
 
-    /// The states that are live over the permitted symbols, and the rank of each: the number of the round that finds it.
+    /// The states that are live over the permitted symbols, and the rank of each: the number of the
+    /// round that finds it.
     pub fn ranks_over(&self, permitted: u64) -> Ranks
         ensures { Ranked
             (meaning_over permitted D.Domain.holds self.now) (states_of self.now) result.live
@@ -102,7 +101,6 @@ impl<D: Domain> Tested<'_, D> {
     }
 
     /// The live states, and the rank of each.
-    // Kept beside `ranks_over`, as are the two below: these laws are of the schema itself, or of the set alone, and each caller would show them anew.
     pub fn ranks(&self) -> Ranks
         ensures { Ranked (meaning D.Domain.holds self.now) (states_of self.now) result.live result.rank }
     {
@@ -126,13 +124,13 @@ impl<D: Domain> Tested<'_, D> {
     }
 }
 
-/// The states that accept a finite tree, as a mask: bit i for state i, and no bit past the states; or the refusal of the tables.
-#[tactic(auto, using(crate::proofs::Small::small_schemas, crate::proofs::Unique::one_live_answer))]
+/// The states that accept a finite tree, as a mask: bit i for state i, and no bit past the states;
+/// or the refusal of the tables.
+#[tactic(auto, using(crate::proofs::Unique::live_laws))]
 pub fn live<D: Domain>(schema: &Schema<D>) -> Result<u64, Refusal>
     ensures answer { LiveAnswer (tables schema.now) (sets D.Domain.holds schema.now) result }
-    ensures one { OneLiveAnswer }
     ensures ranks { IfOk result (RankMask (automaton_of D.Domain.holds schema.now) schema.now.states) }
-    ensures examples { SmallSchemas }
+    ensures laws { LiveLaws }
 {
     let tested = Tested::new(schema)?;
     Ok(tested.live_states())

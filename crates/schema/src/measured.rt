@@ -15,7 +15,6 @@ pub struct Measured<'a, D> {
 }
 
 /// The byte at an index of a table, or another one past its end.
-// As `entry` of the refusals' words: one chain of the library's, for bytes here and for texts there.
 fn byte_at(table: &[u8], index: usize, other: u8) -> u8
     ensures { result ≡ slice_index_or table.now index other }
 {

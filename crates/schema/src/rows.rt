@@ -1,4 +1,5 @@
-//! Which rows of a state the sequences over a set of symbols lead to, and whether one of them may end.
+//! Which rows of a state the sequences over a set of symbols lead to, and whether one of them may
+//! end.
 ghost use Rattle.std.specs.Prelude.{◌≡◌, ℕ, ◌<◌, ◌&&◌, if◌then◌else◌, None, Decides};
 ghost use Rattle.bits.specs.Bits.{bit};
 ghost use Rattle.schema.specs.Automata.{passes};
@@ -11,7 +12,6 @@ use bits::gathering::{gather, gather_onto};
 use bits::sets::{has_member, lowest_alone, with_member};
 use domain::domain::Domain;
 
-// A state comes as any `u8`, and what is said of its rows first asks that it is one: a type of states would ask more of callers.
 impl<D: Domain> Tested<'_, D> {
     /// Whether a symbol leads into a set of states.
     fn leads_into(&self, state: u8, symbol: u8, states: u64) -> bool
@@ -64,7 +64,7 @@ impl<D: Domain> Tested<'_, D> {
     {
         let mut reached = with_member(0, from);
         let mut done = 0;
-        // a work list: the set that it goes over grows while it goes
+        // a work list: the set grows while the loop goes over it
         while let Some(row) = lowest_alone(reached, done) {
             done = with_member(done, row);
             reached = self.rows_after(state, row, symbols, reached);
@@ -79,7 +79,8 @@ impl<D: Domain> Tested<'_, D> {
         has_member(reached, row) && self.may_end(state, row)
     }
 
-    /// Whether some sequence over the set runs from a row of the state to a row where it may end; its first row is 0.
+    /// Whether some sequence over the set runs from a row of the state to a row where it may end;
+    /// its first row is 0.
     pub fn has_sequence_from(&self, state: u8, from: u8, symbols: u64) -> bool
         ensures any_row { IsState self.now state →
             from < row_count (tables_of self.now) state →

@@ -54,7 +54,8 @@ impl<D: Domain> Tested<'_, D> {
         ))
     }
 
-    /// The symbols that some sequence over the set holds, from the first row to a row where it may end.
+    /// The symbols that some sequence over the set holds, from the first row to a row where it may
+    /// end.
     pub fn symbols_held(&self, state: u8, symbols: u64) -> u64
         ensures { IsState self.now state →
             (a : ℕ) →
@@ -67,7 +68,8 @@ impl<D: Domain> Tested<'_, D> {
         })
     }
 
-    /// The symbols that are live at the state over the permitted ones, where the live states are given.
+    /// The symbols that are live at the state over the permitted ones, where the live states are
+    /// given.
     pub fn live_symbols(&self, state: u8, live: u64, permitted: u64) -> u64
         ensures { IsState self.now state →
             LiveMask (meaning_over permitted D.Domain.holds self.now) (states_of self.now) live →

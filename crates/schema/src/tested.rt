@@ -85,7 +85,6 @@ impl<'a, D> Tested<'a, D> {
     }
 
     /// The row after a row under a symbol.
-    // As `next_state`: one helper for both would be handed the byte before it is known that the symbol is one.
     pub fn next_row(&self, state: u8, row: u8, symbol: u8) -> Option<u8>
         ensures { (ds : List (ℕ → Bool)) →
             result ≡ (automaton (tables_of self.now) ds).step state row symbol }

@@ -1,4 +1,5 @@
--- Breadth first: what a search over places knows midway, and why the first goal is the first in order. Assumes nothing.
+-- Breadth first: what a search over places knows midway, and why the first goal is the first in
+-- order. Assumes nothing.
 use Rattle.std.proofs.Common.{◌≡◌, ℕ, ◌+◌, ◌<◌, ◌≤◌, Bool, true, false, ◌⊎◌, List, [], ◌∷◌, ◌++◌, length, Some, Option, sym, refl, ap, ◌∙◌, subst, inl, inr, ⊎_elim, arith}
 use Rattle.std.specs.List.{slice_get}
 use Rattle.std.specs.Option.{option_and_then}
@@ -37,8 +38,9 @@ module _ {E N : Type 0} (L : Links E) (move : N → ℕ → Option N) (goal : N 
   leads [] = Some start
   leads (a ∷ w) = option_and_then (λ n. move n a) (leads w)
 
-  -- midway, where all symbols were tried at the entries below k, and those below b at entry k: each entry's sequence leads to its place, no
-  -- entry is a goal, the entries above the bottom one lie as they were found, and where a symbol that was tried leads is listed
+  -- midway, where all symbols were tried at the entries below k, and those below b at entry k: each
+  -- entry's sequence leads to its place, no entry is a goal, the entries above the bottom one lie
+  -- as they were found, and where a symbol that was tried leads is listed
   pub record Midway (es : List E) (k b : ℕ) : Type 0 where
     pub bottom : (e : E) × (slice_get es 0 ≡ Some e) × (node e ≡ start)
     pub led : (i : ℕ) (e : E) → slice_get es i ≡ Some e → (w : List ℕ) × Traces L es i w × (leads w ≡ Some (node e))
@@ -128,7 +130,8 @@ module _ {E N : Type 0} (L : Links E) (move : N → ℕ → Option N) (goal : N 
         (λ h. omega (arith, slice_get_within es k h.0 h.1))
         (either w n to)
 
-    -- no sequence that leads to a goal comes before that of the entry which is being tried, with symbol b
+    -- no sequence that leads to a goal comes before that of the entry which is being tried, with
+    -- symbol b
     pub none_before : (u : List ℕ) → Traces L es k u → (w : List ℕ) (n : N) → leads w ≡ Some n → goal n ≡ true → NotAfter (b ∷ u) w
     none_before u t w n to there =
         ⊎_elim

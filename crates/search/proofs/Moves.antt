@@ -1,4 +1,5 @@
--- Moves over pairs of a row and a watcher's state: they lead to a goal exactly along the sequences that are sought. Assumes nothing.
+-- Moves over pairs of a row and a watcher's state: they lead to a goal exactly along the sequences
+-- that are sought. Assumes nothing.
 use Rattle.std.proofs.Common.{◌≡◌, ℕ, Bool, true, false, cond, ◌&&◌, List, [], ◌∷◌, ◌++◌, reverse, Some, None, Option, sym, refl, ap, ◌∙◌}
 use mathlib.Core.List.{reverse-cons}
 use Rattle.std.specs.Option.{option_and_then, option_map}

@@ -1,4 +1,5 @@
--- Paths and words of entries: one of each for an entry, kept as entries are added, and the parent's with one more. Assumes nothing.
+-- Paths and words of entries: one of each for an entry, kept as entries are added, and the parent's
+-- with one more. Assumes nothing.
 use Rattle.std.proofs.Common.{◌≡◌, ℕ, zero, suc, ◌+◌, ◌<◌, ◌≤◌, Bool, true, false, cond, ltb, List, [], ◌∷◌, ◌++◌, reverse, length, Some, None, Option, sym, refl, ap, ◌∙◌, subst, append_assoc, arith}
 use mathlib.Core.List.{reverse-cons}
 use Rattle.std.specs.List.{slice_get}
@@ -31,7 +32,8 @@ module _ {E : Type 0} (L : Links E) where
   pub found_there : (es : List E) (i : ℕ) (e : E) → slice_get es i ≡ Some e → L.parent e < i → found_from L es i ≡ Some e
   found_there es i e is before = ap (λ o. with_parent_before L o i) is ∙ cond-true (ltb (L.parent e) i) (Some e) None (lt-ltb (L.parent e) i before)
 
-  -- from entry i down along the parents, the symbols of the entries passed: the last one of its word first
+  -- from entry i down along the parents, the symbols of the entries passed: the last one of its
+  -- word first
   abbrev pub Traces : List E → ℕ → List ℕ → Type 0
   Traces es i w = (back : List E) × PathBack L es i back × (word_of L back ≡ w)
 
@@ -150,7 +152,8 @@ module _ {E : Type 0} (L : Links E) where
           let v = word_parent e is w s in
           omega (arith, so v.0 v.1, length-append v.0 (L.symbol e ∷ []), ap length v.2)
 
-    -- the entries after entry j on the path to entry i, in order: each was found from the one before it, and the first one from j
+    -- the entries after entry j on the path to entry i, in order: each was found from the one
+    -- before it, and the first one from j
     abbrev pub Onward : ℕ → ℕ → List E → Type 0
     Onward j i [] = j ≡ i
     Onward j i (e ∷ path) = (k : ℕ) × (slice_get es k ≡ Some e) × (L.parent e ≡ j) × (L.parent e < k) × Onward k i path

@@ -1,4 +1,5 @@
--- A search under way: the pile, the listed pairs and the cursor from turn to turn, and the answers. Assumes nothing.
+-- A search under way: the pile, the listed pairs and the cursor from turn to turn, and the answers.
+-- Assumes nothing.
 use Rattle.std.proofs.Common.{◌≡◌, ℕ, ◌+◌, ◌*◌, ◌<◌, ◌≤◌, Bool, true, false, ◌&&◌, ◌||◌, eqb, List, [], ◌∷◌, ◌++◌, reverse, length, Some, None, Option, sym, ap, ◌∙◌, subst, ⊎_elim, arith}
 use Rattle.std.specs.List.{slice_get}
 use Rattle.std.proofs.lemmas.List.{length_push, length-reverse}
@@ -28,7 +29,8 @@ use Rattle.search.proofs.Orders.{NotAfter, nothing_before_empty, no_later_revers
 use Rattle.search.proofs.Paths.{Traces, trace_short, traces_first, word_of_traces}
 use Rattle.search.proofs.Places.{nth_kept, nth_cases, nth_inside}
 
--- the rows of a state: some, at most 16, leading to one another, and only under the schema's symbols, of which there are at most 32
+-- the rows of a state: some, at most 16, leading to one another, and only under the schema's
+-- symbols, of which there are at most 32
 pub record Fenced (A : Automaton) (q rows symbols : ℕ) : Type 0 where
   pub some : 0 < rows
   pub few : rows ≤ 16
@@ -158,7 +160,7 @@ module _ (A : Automaton) (q : ℕ) (set : ℕ → Bool) (W : Watching) (rows sym
         few = omega (arith, low, t.under.fence.few)
 
         listed : (r s : ℕ) → is_visited l' r s ≡ (is_visited l r s || (eqb f.row r && eqb f.watch s))
-        listed = o.listed few (omega (arith, narrow, t.under.narrow))
+        listed = o.visited few (omega (arith, narrow, t.under.narrow))
 
         room : length es < 16 * states
         room = room_left states l l' es f t.under.noted few narrow o.new listed
@@ -195,7 +197,8 @@ module _ (A : Automaton) (q : ℕ) (set : ℕ → Bool) (W : Watching) (rows sym
             let first = λ (v : List ℕ) (s : Sought A q set W v). let g = goal_of_sought A q set W v s in new.first (reverse v) g.place g.to g.there in
             answered pile'.entries i w (place_of f) read new.leads_to there first (omega (arith, at, ap length grows, length_push es f)) (omega (arith, at, room))
 
-  -- before the first turn: nothing is listed, and the pair of the first row and the watcher's start comes on an empty pile
+  -- before the first turn: nothing is listed, and the pair of the first row and the watcher's start
+  -- comes on an empty pile
   module _ (fence : Fenced A q rows symbols) (below : StatesBelow states W) (narrow : states ≤ 17) (l : Visited) (pile : Stack RowPair) (p : RowPair) (l' : Visited) (pile' : Stack RowPair) (none : (r s : ℕ) → is_visited l r s ≡ false) (empty : pile.entries ≡ []) (room : 272 ≤ length pile.free) (is : p ≡ first_pair W) where
     starts_low : p.watch < states
     starts_low = omega (arith, below.start, ap {B = ℕ} (λ (x : RowPair). x.watch) is)
@@ -211,7 +214,7 @@ module _ (A : Automaton) (q : ℕ) (set : ℕ → Bool) (W : Watching) (rows sym
 
     pub begins : (i : Option ℕ) → Visits p l pile i l' pile' → goal A q W p ≡ false → Underway l' pile' 0 0
     begins (Some i) o not-goal =
-        let noted = noted_more states l l' [] p (nothing_noted states l none) (omega (arith, row)) starts_low o.new (o.listed (omega (arith, row)) (omega (arith, starts_low))) in
+        let noted = noted_more states l l' [] p (nothing_noted states l none) (omega (arith, row)) starts_low o.new (o.visited (omega (arith, row)) (omega (arith, starts_low))) in
         record {
           fence = fence;
           below = below;

@@ -1,8 +1,10 @@
--- Entries that were each found from one before it: the path to an entry, its word, and the order of a search breadth first. Assumes nothing.
+-- Entries that were each found from one before it: the path to an entry, its word, and the order of
+-- a search breadth first. Assumes nothing.
 use Rattle.std.specs.Prelude.{◌≡◌, ℕ, zero, suc, ◌+◌, ◌<◌, ◌⊎◌, cond, List, [], ◌∷◌, map, reverse, Some, None, Option, nat_lt}
 use Rattle.std.specs.List.{slice_get}
 
--- what an entry tells: the place of the entry that it was found from, and the symbol that led from there
+-- what an entry tells: the place of the entry that it was found from, and the symbol that led from
+-- there
 pub record Links (E : Type 0) : Type 0 where
   pub parent : E → ℕ
   pub symbol : E → ℕ
@@ -27,7 +29,8 @@ module _ {E : Type 0} (L : Links E) where
   down_from None on = []
 
   module _ (es : List E) where
-    -- from entry i along the parents to the first entry: the entries on the path but the first, the last one first
+    -- from entry i along the parents to the first entry: the entries on the path but the first, the
+    -- last one first
     abbrev pub PathBack : ℕ → List E → Type 0
     PathBack i [] = i ≡ 0
     PathBack i (e ∷ back) = (slice_get es i ≡ Some e) × (L.parent e < i) × PathBack (L.parent e) back
@@ -53,7 +56,8 @@ module _ {E : Type 0} (L : Links E) where
     abbrev pub descent : ℕ → List ℕ
     descent i = downwards i i
 
-    -- breadth first: the entries after the first one stand in the order of the entries that they were found from, and of their symbols there
+    -- breadth first: the entries after the first one stand in the order of the entries that they
+    -- were found from, and of their symbols there
     abbrev pub BreadthFirst : Type 0
     BreadthFirst =
         (i j : ℕ) (e f : E) → 0 < i → i < j → slice_get es i ≡ Some e → slice_get es j ≡ Some f

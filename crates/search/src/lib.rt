@@ -1,4 +1,5 @@
-//! Shortest sequences of symbols at a state of a schema, for any question that a small watcher can put.
+//! Shortest sequences of symbols at a state of a schema, for any question that a small watcher can
+//! put.
 #![tactic(auto)]
 
 pub mod pairs;

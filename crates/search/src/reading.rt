@@ -46,7 +46,8 @@ pub fn length(pile: &Pile<RowPair>, index: usize) -> usize
 
 /// The symbol at a position of the sequence of an entry, the first one at 0, or none past its end.
 pub fn symbol_at(pile: &Pile<RowPair>, index: usize, position: usize) -> Option<u8>
-    ensures { (w : List ℕ) → Spells row_links pile.now.entries index w → result ≡ slice_get w position }
+    ensures { (w : List ℕ) → Spells row_links pile.now.entries index w →
+        result ≡ slice_get w position }
 {
     let count = length(pile, index);
     if position >= count {

@@ -15,7 +15,8 @@ use codec::pile::Pile;
 use domain::domain::Domain;
 use schema::tested::Tested;
 
-/// A question for the sequences over a set of symbols that run at a state of a schema and that a watcher wants.
+/// A question for the sequences over a set of symbols that run at a state of a schema and that a
+/// watcher wants.
 #[derive(Drop)]
 pub struct Question<'a, 'b, D, W> {
     pub tested: &'a Tested<'b, D>,
@@ -60,8 +61,8 @@ impl<D: Domain, W: Watcher> Question<'_, '_, D, W> {
         self.tested.may_end(self.state, pair.row) && self.watcher.wants(pair.watch)
     }
 
-    /// The entry of the pile that the shortest sequence that is sought ends at, or none where none is sought. The pile has to be empty and to
-    /// have ROW_PAIRS slots.
+    /// The entry of the pile that the shortest sequence that is sought ends at, or none where none
+    /// is sought. The pile has to be empty and to have ROW_PAIRS slots.
     fn search(&self, pile: &mut Pile<RowPair>) -> Option<usize>
         ensures { IsState self.now.tested.now self.now.state →
             pile.old.entries ≡ [] →
@@ -75,7 +76,8 @@ impl<D: Domain, W: Watcher> Question<'_, '_, D, W> {
             return bottom;
         }
         let mut found = None;
-        // Two loops left by a label: the first goal ends both. The pile grows while the outer one goes over it.
+        // Two loops left by a label: the first goal ends both. The pile grows while the outer one
+        // goes over it.
         'search: for cursor in 0..ROW_PAIRS {
             let Some(pair) = pile.read(cursor) else {
                 break 'search;
@@ -97,8 +99,9 @@ impl<D: Domain, W: Watcher> Question<'_, '_, D, W> {
         found
     }
 
-    /// The shortest sequence that is sought, and of those that are as short the first by its symbols; or none where none is sought. It has at
-    /// most N symbols, where N allows for all that the rows of a state and the states of the watcher can take.
+    /// The shortest sequence that is sought, and of those that are as short the first by its
+    /// symbols; or none where none is sought. It has at most N symbols, where N allows for all that
+    /// the rows of a state and the states of the watcher can take.
     #[tactic(auto, using(crate::proofs::Orders::one_shortest))]
     pub fn shortest<const N: usize>(&self, slots: &mut RowSlots) -> Option<Word<N>>
         ensures answer { IsState self.now.tested.now self.now.state →

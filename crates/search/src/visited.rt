@@ -35,11 +35,14 @@ impl Visited {
 
     /// Lists the pair.
     fn add(&mut self, pair: RowPair)
-        ensures { pair.row < 16 → pair.watch < 64 → (r s : ℕ) → is_visited self.new r s ≡ (is_visited self.old r s || (pair.row == r && pair.watch == s)) }
+        ensures { pair.row < 16 →
+            pair.watch < 64 →
+            (r s : ℕ) →
+            is_visited self.new r s ≡
+            (is_visited self.old r s || (pair.row == r && pair.watch == s)) }
     {
         let row = usize::from(pair.row);
         if row < MASKS {
-            // by index: tried with `get_mut`, after which nothing is known of the masks, so that `returns` stays open
             self.masks[row] = with_member(self.masks[row], pair.watch);
         }
     }

@@ -32,7 +32,9 @@ impl<const N: usize> Model for Word<N> {
 impl<const N: usize> Word<N> {
     /// The sequence of an entry that a search found, where it has at most N symbols.
     pub(crate) fn read(pile: &Pile<RowPair>, index: usize) -> Word<N>
-        ensures { (w : List ℕ) → Spells row_links pile.now.entries index w → length w ≤ N → result ≡ w }
+        ensures { (w : List ℕ) → Spells row_links pile.now.entries index w →
+            length w ≤ N →
+            result ≡ w }
     {
         let count = reading::length(pile, index).min(N);
         let mut symbols = [0; N];
