@@ -16,7 +16,8 @@ use Rattle.document.specs.Documents.{AtEnd, OnWay, Built, GoesOn, DocumentOf, On
 use Rattle.samples.specs.Samples.{LowerSequence, Sample, Samples}
 use Rattle.document.specs.Writing.{DocumentIn, Found, NoDocument}
 use Rattle.samples.proofs.Unique.{one_smallest, same_node, same_child, one_samples}
-use Rattle.document.proofs.Ways.{one_way}
+use Rattle.search.proofs.Paths.{one_path}
+use Rattle.compare.specs.Listing.{pair_links}
 
 module _ (A B : Automaton) where
   -- the end has one value and one sequence
@@ -63,7 +64,7 @@ module _ (A B : Automaton) where
 pub one_document : OneDocument
 unfolding OneDocument
 one_document A B k es i v w t u d d' =
-    let way : v ≡ w = one_way es i v w d.leads d'.leads in
+    let way : v ≡ w = one_path pair_links es i v w d.leads d'.leads in
     (way, one_built A B k 0 0 w t u (subst (λ (l : List Listed). Built A B k 0 0 l t) way d.built) d'.built)
 
 module _ (A B : Automaton) (w : Work) where

@@ -1,7 +1,7 @@
-pub mod Climbing
 pub mod Documents
 pub mod Forks
-pub mod Marks
+pub mod Laws
 pub mod Nodes
 pub mod Passing
+pub mod Steps
 pub mod Writing
