@@ -11,7 +11,7 @@ abbrev pub is_visited : Visited → ℕ → ℕ → Bool
 is_visited l r s = bit (slice_index l.masks r) s
 
 -- a pair that was not listed is listed and put on the pile, where a slot is left
-pub record Added
+pub record NewlyVisited
     (p : RowPair) (l : Visited) (pile : Stack RowPair) (i : ℕ) (l' : Visited)
     (pile' : Stack RowPair) : Type 0 where
   pub new : is_visited l p.row p.watch ≡ false
@@ -23,7 +23,7 @@ pub record Added
   pub pushed : length pile.entries < slots pile → pile'.entries ≡ pile.entries ++ p ∷ []
 
 -- a pair that was listed changes nothing
-pub record Known
+pub record AlreadyVisited
     (p : RowPair) (l : Visited) (pile : Stack RowPair) (l' : Visited) (pile' : Stack RowPair) : Type 0
   where
     pub old : is_visited l p.row p.watch ≡ true
@@ -32,5 +32,5 @@ pub record Known
 
 -- a pair, with the place where it was put if it was not listed yet
 abbrev pub Visits : RowPair → Visited → Stack RowPair → Option ℕ → Visited → Stack RowPair → Type 0
-Visits p l pile (Some i) l' pile' = Added p l pile i l' pile'
-Visits p l pile None l' pile' = Known p l pile l' pile'
+Visits p l pile (Some i) l' pile' = NewlyVisited p l pile i l' pile'
+Visits p l pile None l' pile' = AlreadyVisited p l pile l' pile'
