@@ -26,7 +26,7 @@ use Rattle.compare.specs.Work.{Work, said, begun}
 use Rattle.compare.proofs.Allowing.{allows}
 use Rattle.compare.proofs.Closed.{closed_carries}
 use Rattle.compare.proofs.Goings.{none_left, one_left}
-use Rattle.compare.proofs.Growing.{Listing, listing, passed_further}
+use Rattle.compare.proofs.Growing.{Listing, listing, passed_further, met_listed}
 use Rattle.compare.proofs.Standing.{listed_nth, listed_tells}
 use Rattle.compare.proofs.Telling.{broken_tells, onward_tells, unbroken_onward}
 use Rattle.compare.proofs.Turning.{counts_stay}
@@ -71,27 +71,27 @@ module _ (A B : Automaton) where
     rooted_on : Rooted A B es
     rooted_on =
         ⊎_elim
-        (λ first. inl (first.0, told.further.entries 0 start first.1))
+        (λ first. inl (first.0, told.further 0 start first.1))
         (λ none. absurd (none-some _ (subst (λ (xs : List Listed). slice_get xs w.examined ≡ Some pair) none.1 at)))
         g.rooted
 
-    passed_now : Passed A B es pair
+    passed_now : Passed A B es w.examined pair
     passed_now =
         record {
           unbroken = unbroken;
           onward = λ a s alive first. let there = unbroken_onward A B pair.first pair.second a unbroken alive in (there.0, there.1, told.added a s there.0 (low pair.first a s first) ((exact a).1 alive) first there.1);
         }
 
-    passed_on : (i : ℕ) (e : Listed) → i < w.examined + 1 → slice_get es i ≡ Some e → Passed A B es e
+    passed_on : (i : ℕ) (e : Listed) → i < w.examined + 1 → slice_get es i ≡ Some e → Passed A B es i e
     passed_on i e early there =
         ⊎_elim
         (λ before.
         let x = entry_below w.pairs i w.examined pair at before in
-        let same : x.0 ≡ e = same_Some _ _ (sym (told.further.entries i x.0 x.1) ∙ there) in
-        subst (Passed A B es) same (passed_further A B w.pairs es x.0 told.further (g.examined i x.0 (subst (λ (p : Phase). i < settled p w.examined) (sym runs) before) x.1)))
+        let same : x.0 ≡ e = same_Some _ _ (sym (told.further i x.0 x.1) ∙ there) in
+        subst (Passed A B es i) same (passed_further A B w.pairs es i x.0 told.further (g.examined i x.0 (subst (λ (p : Phase). i < settled p w.examined) (sym runs) before) x.1)))
         (λ last.
         let here : w.examined ≡ i = omega arith in
-        subst (Passed A B es) (same_Some _ _ (sym (told.further.entries w.examined pair at) ∙ ap (slice_get es) here ∙ there)) passed_now)
+        subst (λ (k : ℕ). Passed A B es k e) here (subst (Passed A B es w.examined) (same_Some _ _ (sym (told.further w.examined pair at) ∙ ap (slice_get es) here ∙ there)) passed_now))
         (cases_lt i w.examined)
 
     grown_as : (p : Phase) → settled p (w.examined + 1) ≡ w.examined + 1 → Stands A B (examined_to w es p) p → Grown A B (examined_to w es p)
@@ -105,7 +105,7 @@ module _ (A B : Automaton) where
         (cases_eq (w.examined + 1) (length es))
       where
         left : (w.examined + 1 ≡ length es → ⊥) → w.examined + 1 < length es
-        left more = omega (arith, more, slice_get_within es w.examined pair (told.further.entries w.examined pair at))
+        left more = omega (arith, more, slice_get_within es w.examined pair (told.further w.examined pair at))
 
   turn_grown : (w w' : Work) → ((p a s : ℕ) → A.next p a ≡ Some s → a < w.symbols) → w.phase ≡ phase.Running → Turn A B w w' → Grown A B w → Grown A B w'
   turn_grown w w' low runs turn g =
@@ -195,7 +195,7 @@ module _ (A B : Automaton) where
   Says es p q = Unbroken A B p q × ((a s : ℕ) → LiveSymbol A p a → A.next p a ≡ Some s → (u : ℕ) × (B.next q a ≡ Some u) × (listed es s u ≡ true))
 
   -- where every listed pair has passed, the listed pairs are closed
-  closed : (es : List Listed) → ((i : ℕ) (e : Listed) → slice_get es i ≡ Some e → Passed A B es e) → Closed A B (listed es)
+  closed : (es : List Listed) → ((i : ℕ) (e : Listed) → slice_get es i ≡ Some e → Passed A B es i e) → Closed A B (listed es)
   closed es each =
       record {
         unbroken = λ p q there. (pair p q there).0;
@@ -206,7 +206,8 @@ module _ (A B : Automaton) where
       pair p q there =
           let at = listed_tells es p q there in
           let passed = each at.0 (get_or es at.0 start) (slice_get-get_or es at.0 start at.1) in
-          subst (λ (r : ℕ). Says es r q) at.2 (subst (Says es (get_or es at.0 start).first) at.3 (passed.unbroken, passed.onward))
+          let says : Says es (get_or es at.0 start).first (get_or es at.0 start).second = (passed.unbroken, λ a s alive first. let o = passed.onward a s alive first in (o.0, o.1, met_listed es at.0 a s o.0 o.2)) in
+          subst (λ (r : ℕ). Says es r q) at.2 (subst (Says es (get_or es at.0 start).first) at.3 says)
 
   live_along : (w : List ℕ) (p s : ℕ) → Live A p → LivePath A p w s → Live A s
   live_along [] p s live path = subst (Live A) path live
@@ -235,7 +236,7 @@ pub included_carries : IncludedCarries
 unfolding IncludedCarries
 included_carries A B w g is t accepted =
     let all : w.examined ≡ length w.pairs = subst (Stands A B w) is g.stands in
-    let each : (i : ℕ) (e : Listed) → slice_get w.pairs i ≡ Some e → Passed A B w.pairs e = λ i e at. g.examined i e (subst (λ (p : Phase). i < settled p w.examined) (sym is) (omega (arith, all, slice_get_within w.pairs i e at))) at in
+    let each : (i : ℕ) (e : Listed) → slice_get w.pairs i ≡ Some e → Passed A B w.pairs i e = λ i e at. g.examined i e (subst (λ (p : Phase). i < settled p w.examined) (sym is) (omega (arith, all, slice_get_within w.pairs i e at))) at in
     ⊎_elim
     (λ first. closed_carries A B (listed w.pairs) (closed A B w.pairs each) 0 0 (listed_nth w.pairs 0 start first.1) t accepted)
     (λ none. absurd (none.0 (t, accepted)))

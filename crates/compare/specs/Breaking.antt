@@ -1,5 +1,5 @@
--- Pairs of states: what breaks one, what a set of unbroken pairs says of the trees, and which tree a
--- broken pair tells of. Assumes nothing.
+-- Pairs of states: what breaks one, what a set of unbroken pairs says of the trees, and which tree
+-- a broken pair tells of. Assumes nothing.
 use Rattle.std.specs.Prelude.{◌≡◌, ℕ, Bool, true, false, List, Some}
 use Rattle.codec.specs.Trees.{Tree}
 use Rattle.schema.specs.Automata.{Automaton, allowed, accepts}
@@ -8,8 +8,8 @@ use Rattle.compare.specs.declared.phase.Kind.{Kind}
 use Rattle.compare.specs.declared.phase.Kind.TheVariants.{Value, Content}
 
 module _ (A B : Automaton) where
-  -- broken in value: a value is in the first state's domain alone; in content: a sequence live at the first
-  -- state is not allowed at the second
+  -- broken in value: a value is in the first state's domain alone; in content: a sequence live at
+  -- the first state is not allowed at the second
   abbrev pub Broken : Kind → ℕ → ℕ → Type 0
   Broken Value p q = (v : ℕ) × (A.has p v ≡ true) × (B.has q v ≡ false)
   Broken Content p q = (w : List ℕ) × LiveSequence A p w × (allowed B q w ≡ false)
@@ -19,8 +19,8 @@ module _ (A B : Automaton) where
     pub values : (v : ℕ) → A.has p v ≡ true → B.has q v ≡ true
     pub contents : (w : List ℕ) → LiveSequence A p w → allowed B q w ≡ true
 
-  -- the pairs are unbroken, and hold with a pair the pair of next states under each symbol live at its
-  -- first state
+  -- the pairs are unbroken, and hold with a pair the pair of next states under each symbol live at
+  -- its first state
   pub record Closed (P : ℕ → ℕ → Bool) : Type 0 where
     pub unbroken : (p q : ℕ) → P p q ≡ true → Unbroken p q
     pub onward : (p q a s : ℕ) → P p q ≡ true → LiveSymbol A p a → A.next p a ≡ Some s
@@ -40,8 +40,8 @@ ClosedCarries =
 abbrev pub BrokenTells : Type 0
 BrokenTells = (A B : Automaton) (k : Kind) (p q : ℕ) → Live A p → Broken A B k p q → ToldApart A B p q
 
--- where a symbol live at the first state leads to two states that a tree tells apart, a tree tells the
--- states apart that it leaves
+-- where a symbol live at the first state leads to two states that a tree tells apart, a tree tells
+-- the states apart that it leaves
 abbrev pub OnwardTells : Type 0
 OnwardTells =
     (A B : Automaton) (p q a s u : ℕ) → Live A p → LiveSymbol A p a → A.next p a ≡ Some s

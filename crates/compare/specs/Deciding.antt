@@ -1,5 +1,5 @@
--- What an accepted call does is what the table of phases and events decides, and where the phase makes a
--- call come too early. Assumes nothing.
+-- What an accepted call does is what the table of phases and events decides, and where the phase
+-- makes a call come too early. Assumes nothing.
 use Rattle.std.specs.Prelude.{◌≡◌, ℕ, suc, Bool, cond, ◌⊎◌, List, Ok, Err, ◌==◌}
 use Rattle.refusal.specs.declared.fault.Fault.TheVariants.{Early}
 use Rattle.refusal.specs.declared.fault.Refusal.{Refusal}
@@ -30,8 +30,8 @@ BeginsAsDecided e =
     (T U : Tables) (sets : List (ℕ → Bool)) (a : Area) (claim : Lease Comparing) (a' : Area)
     → Beginning e T U sets a (Ok claim) a' → decided a.phase e ≡ Begin
 
--- what an accepted step does by a decision: it examines, in one turn at least; or the area stays as it was,
--- and 0 pairs and a standing verdict are answered
+-- what an accepted step does by a decision: it examines, in one turn at least; or the area stays as
+-- it was, and 0 pairs and a standing verdict are answered
 abbrev pub StepsBy : Automaton → Automaton → Decision → Area → ℕ × ℕ → Area → Type 0
 StepsBy A B Examine a answer a' = (k : ℕ) × Turns A B (suc k) (said a) (said a')
 StepsBy A B Stay a answer a' = (answer ≡ (0, 1)) × (a' ≡ a)
@@ -45,8 +45,8 @@ StepsAsDecided =
     → Stepping T U sets others claim n slots a (Ok answer) a'
     → StepsBy (automaton T sets) (automaton U others) (decided a.phase Step) a answer a'
 
--- what an accepted conclusion comes to by a decision: released, it is included, and the area is free;
--- parted by a kind, it is apart by that kind, and so is the area
+-- what an accepted conclusion comes to by a decision: released, it is included, and the area is
+-- free; parted by a kind, it is apart by that kind, and so is the area
 abbrev pub ConcludesBy : Decision → Area → Concluded → Area → Type 0
 ConcludesBy Release a (Included n) a' = said a' ≡ free a.number a.serial
 ConcludesBy (Part k) a (Apart l n claim) a' = (l ≡ k) × (said a' ≡ in_phase (said a) (phase.Apart k))
@@ -64,8 +64,8 @@ TrailsAsDecided =
     (a : Area) (claim : Numbers) (output : List ℕ) (n : ℕ) (output' : List ℕ)
     → Trailing a claim output (Ok n) output' → decided a.phase Write ≡ Stay
 
--- what giving up a claim with that serial does by a decision: released, the area is free and 1 is answered,
--- where the serial is the area's; and else it stays as it was, and 0 is answered
+-- what giving up a claim with that serial does by a decision: released, the area is free and 1 is
+-- answered, where the serial is the area's; and else it stays as it was, and 0 is answered
 abbrev pub GivesUpBy : Decision → Area → ℕ → ℕ → Area → Type 0
 GivesUpBy Release a serial n a' = cond (serial == a.serial) (Frees a n a') ((n ≡ 0) × (a' ≡ a))
 GivesUpBy Stay a serial n a' = (n ≡ 0) × (a' ≡ a)

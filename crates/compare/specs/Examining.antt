@@ -1,4 +1,5 @@
--- Examining the pairs of two schemas that are compared, by what their automata say. Assumes nothing.
+-- Examining the pairs of two schemas that are compared, by what their automata say. Assumes
+-- nothing.
 use Rattle.std.specs.Prelude.{ℕ, Bool, List, Option}
 use Rattle.schema.specs.Meaning.{meaning}
 use Rattle.compare.specs.declared.compared.Compared.{Compared}
@@ -7,8 +8,8 @@ use Rattle.compare.specs.Stepping.{next_pair, with_nexts, GoesOn, Turn, Stepped}
 use Rattle.compare.specs.Work.{Work}
 
 module _ {D : Type 0} (holds : D → ℕ → Bool) (c : Compared D) where
-  -- the pair of next states of a pair at place i under a symbol, where both are there and the symbol is
-  -- live
+  -- the pair of next states of a pair at place i under a symbol, where both are there and the
+  -- symbol is live
   abbrev pub next_of : Listed → ℕ → Bool → ℕ → Option Listed
   next_of e i live a =
       next_pair i a live

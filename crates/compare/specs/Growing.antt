@@ -1,12 +1,12 @@
--- How far a comparison of two automata has come: which pairs it reached, what holds of those that it examined, and what its verdict says.
--- Assumes nothing.
+-- How far a comparison of two automata has come: which pairs it reached, what holds of those that
+-- it examined, and what its verdict says. Assumes nothing.
 use Rattle.std.specs.Prelude.{◌≡◌, ℕ, ◌-◌, ◌<◌, Bool, true, ◌⊎◌, List, [], ◌∷◌, length, Some, Ok}
 use Rattle.std.specs.List.{slice_get}
 use Rattle.codec.specs.Trees.{Tree}
 use Rattle.schema.specs.Automata.{Automaton, accepts}
 use Rattle.schema.specs.Live.{Live, LiveSymbol, LivePath}
 use Rattle.schema.specs.Tables.{Tables, automaton}
-use Rattle.search.specs.Paths.{BreadthFirst}
+use Rattle.search.specs.Paths.{BreadthFirst, Met}
 use Rattle.compare.specs.declared.area.Area.{Area}
 use Rattle.compare.specs.declared.claim.Apart.{Apart}
 use Rattle.compare.specs.declared.claim.Comparing.{Comparing}
@@ -22,8 +22,8 @@ use Rattle.compare.specs.declared.phase.Verdict.TheVariants as verdict
 use Rattle.compare.specs.Beginning.{Beginning}
 use Rattle.compare.specs.Breaking.{Broken, Unbroken, ToldApart}
 use Rattle.compare.specs.Concluding.{Conclusion}
-use Rattle.compare.specs.Pairs.{start, listed}
-use Rattle.compare.specs.Listing.{pair_links}
+use Rattle.compare.specs.Pairs.{start}
+use Rattle.compare.specs.Listing.{pair_links, pair_of}
 use Rattle.compare.specs.Stepping.{Stepping}
 use Rattle.compare.specs.Trailing.{Trail}
 use Rattle.compare.specs.Work.{Work, said}
@@ -47,8 +47,8 @@ settled (phase.Apart k) n = n - 1
 settled p n = n
 
 module _ (A B : Automaton) where
-  -- the trail of every listed pair leads the first automaton along live symbols, and the second too, from
-  -- state 0 to the pair's states
+  -- the trail of every listed pair leads the first automaton along live symbols, and the second
+  -- too, from state 0 to the pair's states
   abbrev pub Reached : List Listed → Type 0
   Reached es =
       (i : ℕ) (e : Listed) → slice_get es i ≡ Some e
@@ -58,11 +58,12 @@ module _ (A B : Automaton) where
   abbrev pub Rooted : List Listed → Type 0
   Rooted es = (Live A 0 × (slice_get es 0 ≡ Some start)) ⊎ ((Live A 0 → ⊥) × (es ≡ []))
 
-  -- the pair is unbroken, and the pair of next states under each symbol live at its first state is listed
-  pub record Passed (es : List Listed) (e : Listed) : Type 0 where
+  -- the pair at place i is unbroken, and the pair of next states under each symbol live at its
+  -- first state is listed: it was met when the symbol was tried at place i, or before
+  pub record Passed (es : List Listed) (i : ℕ) (e : Listed) : Type 0 where
     pub unbroken : Unbroken A B e.first e.second
     pub onward : (a s : ℕ) → LiveSymbol A e.first a → A.next e.first a ≡ Some s
-        → (u : ℕ) × (B.next e.second a ≡ Some u) × (listed es s u ≡ true)
+        → (u : ℕ) × (B.next e.second a ≡ Some u) × Met pair_links es pair_of i a (s, u)
 
   -- the pair that was examined last is broken in that way
   pub record LastBroken (w : Work) (k : Kind) : Type 0 where
@@ -84,9 +85,10 @@ module _ (A B : Automaton) where
     pub rooted : Rooted w.pairs
     pub reached : Reached w.pairs
     pub examined : (i : ℕ) (e : Listed) → i < settled w.phase w.examined → slice_get w.pairs i ≡ Some e
-        → Passed w.pairs e
+        → Passed w.pairs i e
     pub stands : Stands w w.phase
-    -- breadth first: the pairs stand in the order of those that led to them, and of their symbols there
+    -- breadth first: the pairs stand in the order of those that led to them, and of their symbols
+    -- there
     pub ordered : BreadthFirst pair_links w.pairs
     -- an examined pair led to each but the first
     pub led : (i : ℕ) (e : Listed) → 0 < i → slice_get w.pairs i ≡ Some e → e.parent < w.examined

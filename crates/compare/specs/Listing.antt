@@ -1,5 +1,5 @@
--- What a list of pairs says: its state counts and its listed entries, and what follows from what is kept
--- of it. Assumes nothing.
+-- What a list of pairs says: its state counts and its listed entries, and what follows from what is
+-- kept of it. Assumes nothing.
 use Rattle.std.specs.Prelude.{◌≡◌, ℕ, ◌*◌, ◌≤◌, List, length, take, Some}
 use Rattle.std.specs.List.{slice_get}
 use Rattle.search.specs.Paths.{Links}
@@ -14,6 +14,10 @@ entries_of p = take p.length p.entries
 -- how listed pairs are linked: each to the one that led to it, by the symbol that did
 abbrev pub pair_links : Links Listed
 pair_links = record { parent = λ e. e.parent; symbol = λ e. e.symbol }
+
+-- the two states of a listed pair
+abbrev pub pair_of : Listed → ℕ × ℕ
+pair_of e = (e.first, e.second)
 
 -- no more pairs are listed than there are pairs of states
 abbrev pub FewPairs : Type 0

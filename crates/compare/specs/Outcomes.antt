@@ -1,5 +1,5 @@
--- Each call has one outcome: what it does is said by what it is handed, a claim by its numbers. Assumes
--- nothing.
+-- Each call has one outcome: what it does is said by what it is handed, a claim by its numbers.
+-- Assumes nothing.
 use Rattle.std.specs.Prelude.{◌≡◌, ℕ, Bool, ◌⊎◌, List, Ok, Err, Result}
 use Rattle.refusal.specs.declared.fault.Refusal.{Refusal}
 use Rattle.schema.specs.Automata.{Automaton}
@@ -21,8 +21,8 @@ use Rattle.compare.specs.Stepping.{Stepping}
 use Rattle.compare.specs.Trailing.{Trailing}
 use Rattle.compare.specs.Work.{Work, said, in_phase}
 
--- the same is answered, where a relation says when two values are the same; refusals are equal, and what
--- goes back with them too
+-- the same is answered, where a relation says when two values are the same; refusals are equal, and
+-- what goes back with them too
 abbrev pub SameAnswer : {X E : Type 0} → (X → X → Type 0) → Result X E → Result X E → Type 0
 SameAnswer Same (Ok x) (Ok y) = Same x y
 SameAnswer Same (Err e) (Err f) = e ≡ f
@@ -38,8 +38,8 @@ SameConclusion (concluded.Included n) (concluded.Included m) = n ≡ m
 SameConclusion (concluded.Apart k n c) (concluded.Apart l m d) = (k ≡ l) × (n ≡ m) × SameClaim c d
 SameConclusion c d = ⊥
 
--- the same is said of two areas; or both are ready with apart, and differ at most in the kind: then the
--- pair examined last is broken in both ways
+-- the same is said of two areas; or both are ready with apart, and differ at most in the kind: then
+-- the pair examined last is broken in both ways
 abbrev pub ButForKind : Automaton → Automaton → Work → Work → Type 0
 ButForKind A B w v =
     (v ≡ w)
@@ -56,7 +56,8 @@ OneBeginning =
     (a : Area) (r s : Result (Lease Comparing) Refusal) (b c : Area)
     → Beginning e T U sets a r b → Beginning e T U sets a s c → SameAnswer SameClaim r s × (b ≡ c)
 
--- a step has one answer, and leaves one area, but for the kind of a pair that is broken in both ways
+-- a step has one answer, and leaves one area, but for the kind of a pair that is broken in both
+-- ways
 unfoldable pub OneStepping : Type 0
 OneStepping =
     (T U : Tables) (sets others : List (ℕ → Bool)) (claim : Numbers) (n slots : ℕ)

@@ -1,5 +1,5 @@
--- The list of pairs of states of a work area: what is kept of it at every moment, and what listing one
--- more leaves. Assumes nothing.
+-- The list of pairs of states of a work area: what is kept of it at every moment, and what listing
+-- one more leaves. Assumes nothing.
 use Rattle.std.specs.Prelude.{ℕ, zero, suc, ◌^◌, ◌<◌, Bool, true, false, cond, not, ◌&&◌, ◌||◌, List, [], ◌∷◌, ◌++◌, length, get_or, take, ◌==◌, nat_le, nat_lt, slice_index, slice_index_or}
 use Rattle.bits.specs.Bits.{bit}
 use Rattle.schema.specs.declared.tables.TheConstants.{STATES}
@@ -37,13 +37,13 @@ listed (e ∷ es) p q = is_of p q e || listed es p q
 abbrev pub with_pair : List Listed → Listed → List Listed
 with_pair es e = cond (listed es e.first e.second) es (es ++ e ∷ [])
 
--- an entry can stand at place i: its states lie inside the two counts, and the pair that led to it stands
--- earlier; the first was led to by none
+-- an entry can stand at place i: its states lie inside the two counts, and the pair that led to it
+-- stands earlier; the first was led to by none
 abbrev pub fits : ℕ → ℕ → ℕ → Listed → Bool
 fits n m i e = (nat_lt e.first n && nat_lt e.second m) && (i == 0 || nat_lt e.parent i)
 
--- what listing a pair leaves: where it can stand behind the others, the list with it, and else the list as
--- it was
+-- what listing a pair leaves: where it can stand behind the others, the list with it, and else the
+-- list as it was
 abbrev pub after_listing : ℕ → ℕ → List Listed → Listed → List Listed
 after_listing n m es e = cond (fits n m (length es) e) (with_pair es e) es
 

@@ -8,10 +8,10 @@ use Rattle.compare.specs.declared.phase.Phase.{Phase}
 use Rattle.compare.specs.declared.phase.Phase.TheVariants as phase
 use Rattle.compare.specs.declared.phase.Verdict.TheVariants as verdict
 
--- the table of phases by events: take begins on a free area alone, and oust on every one; a free area has
--- no holder, so all that a holder asks is refused there; a claim of the area may be given up at any time,
--- which changes nothing on a free one; a holder may step until the verdict stands and after it to no
--- effect, conclude a ready area, and write on one that is apart
+-- the table of phases by events: take begins on a free area alone, and oust on every one; a free
+-- area has no holder, so all that a holder asks is refused there; a claim of the area may be given
+-- up at any time, which changes nothing on a free one; a holder may step until the verdict stands
+-- and after it to no effect, conclude a ready area, and write on one that is apart
 abbrev pub decided : Phase → Event → Decision
 decided phase.Free Take = decision.Begin
 decided p Take = decision.Refuse Busy

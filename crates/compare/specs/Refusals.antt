@@ -1,5 +1,5 @@
--- The refusals of the area's calls, each as the test that finds it. Their place is the area's serial.
--- Assumes nothing.
+-- The refusals of the area's calls, each as the test that finds it. Their place is the area's
+-- serial. Assumes nothing.
 use Rattle.std.specs.Prelude.{ℕ, Bool, cond, not, ◌&&◌, ◌||◌, [], ◌∷◌, Some, None, Option, ◌==◌, nat_lt}
 use Rattle.refusal.specs.declared.fault.Fault.{Fault}
 use Rattle.refusal.specs.declared.fault.Fault.TheVariants.{Symbols, Worn, Foreign, Ousted, Schemas, Steps}
@@ -57,8 +57,8 @@ wrong_steps w n = where_found (n == 0 || nat_lt MOST_STEPS n) w Steps
 abbrev pub other_serial : Work → ℕ → Option Refusal
 other_serial w serial = where_found (not (serial == w.serial)) w Ousted
 
--- the test of the holder: the numbers are of another area or have another serial, or there is no holder in
--- this phase
+-- the test of the holder: the numbers are of another area or have another serial, or there is no
+-- holder in this phase
 abbrev pub holder_refusal : Work → Numbers → Option Refusal
 holder_refusal w n = first_of (of_another w n.area ∷ other_serial w n.serial ∷ phase_refuses w Hold ∷ [])
 

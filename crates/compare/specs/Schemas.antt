@@ -1,5 +1,5 @@
--- Two schemas that are compared: their states, how a pair is broken in them, and what an area notes of
--- them. Assumes nothing.
+-- Two schemas that are compared: their states, how a pair is broken in them, and what an area notes
+-- of them. Assumes nothing.
 use Rattle.std.specs.Prelude.{◌≡◌, ℕ, Bool, Some, None, Option}
 use Rattle.bits.specs.Bits.{bit}
 use Rattle.domain.specs.Sets.{alone}

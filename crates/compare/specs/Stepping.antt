@@ -20,8 +20,8 @@ use Rattle.compare.specs.Pairs.{with_pair}
 use Rattle.compare.specs.Refusals.{held_kept_from, wrong_steps}
 use Rattle.compare.specs.Work.{Work, said, in_phase}
 
--- the pair of two next states, where both are there and the symbol is live; i is the place of the pair that
--- led to it
+-- the pair of two next states, where both are there and the symbol is live; i is the place of the
+-- pair that led to it
 abbrev pub next_pair : ℕ → ℕ → Bool → Option ℕ → Option ℕ → Option Listed
 next_pair i a true (Some s) (Some u) = Some (record { first = s; second = u; parent = i; symbol = a })
 next_pair i a live o p = None
@@ -36,8 +36,8 @@ abbrev pub with_next : ℕ → ℕ → Bool → Option ℕ → Option ℕ → Li
 with_next i a live s u es = with_found (next_pair i a live s u) es
 
 module _ (A B : Automaton) where
-  -- the list with the pairs of next states of (p, q) under the live symbols below n, ascending; (p, q) is
-  -- at place i
+  -- the list with the pairs of next states of (p, q) under the live symbols below n, ascending; (p,
+  -- q) is at place i
   abbrev pub with_nexts : (ℕ → Bool) → ℕ → ℕ → ℕ → ℕ → List Listed → List Listed
   with_nexts live p q i zero es = es
   with_nexts live p q i (suc a) es =
@@ -86,8 +86,8 @@ module _ (A B : Automaton) where
   abbrev pub ExaminesBroken : Work → Listed → Work → Type 0
   ExaminesBroken w e w' = (k : Kind) × Broken A B k e.first e.second × (w' ≡ after_broken w k)
 
-  -- examining an unbroken one lists its pairs of next states, and where no pair is left to examine the area
-  -- is ready with included
+  -- examining an unbroken one lists its pairs of next states, and where no pair is left to examine
+  -- the area is ready with included
   abbrev pub ExaminesUnbroken : Work → Listed → Work → Type 0
   ExaminesUnbroken w e w' =
       Unbroken A B e.first e.second
@@ -122,8 +122,8 @@ abbrev pub is_running : Phase → Bool
 is_running phase.Running = true
 is_running p = false
 
--- what keeps sound schemas from a step of the claim with these numbers, which asks for n pairs and lends so
--- many slots
+-- what keeps sound schemas from a step of the claim with these numbers, which asks for n pairs and
+-- lends so many slots
 abbrev pub step_kept_from : Work → Tables → Tables → Numbers → ℕ → ℕ → Option Refusal
 step_kept_from w T U claim n slots =
     first_of (held_kept_from w T U claim ∷ wrong_steps w n ∷ short_scratch slots ∷ [])

@@ -25,7 +25,8 @@ is_holder w n = n.area == w.number && held_by w n.serial
 abbrev pub stranger : Work → Numbers → Refusal
 stranger w n = record { fault = cond (n.area == w.number) Ousted Foreign; place = w.serial }
 
--- a step is refused: by a fault of the schemas, by `symbols`, or as a stranger's; the area stays as it was
+-- a step is refused: by a fault of the schemas, by `symbols`, or as a stranger's; the area stays as
+-- it was
 unfoldable pub StepOfStranger : Type 0
 StepOfStranger =
     (T U : Tables) (sets others : List (ℕ → Bool)) (claim : Numbers) (n slots : ℕ)
@@ -50,7 +51,8 @@ TrailOfStranger =
     → Trailing a claim output r output' → is_holder (said a) claim ≡ false
     → (r ≡ Err (stranger (said a) claim)) × (output' ≡ output)
 
--- giving up a claim of this area answers 0, and one of another area is refused; the area stays as it was
+-- giving up a claim of this area answers 0, and one of another area is refused; the area stays as
+-- it was
 unfoldable pub GivingUpOfStranger : Type 0
 GivingUpOfStranger =
     (a : Area) (claim : Numbers) (r : Result ℕ Refusal) (a' : Area)

@@ -30,7 +30,8 @@ EveryTrail = (p : Pairs) (i : ℕ) → i < length (entries_of p) → (w : List �
 abbrev pub led_to : List Listed → ℕ → Option Listed
 led_to es i = found_from pair_links es i
 
--- the bytes of the trail stand at the output's front where they have room, and the place after them is told
+-- the bytes of the trail stand at the output's front where they have room, and the place after them
+-- is told
 abbrev pub TrailWritten : List Listed → ℕ → List ℕ → ℕ → List ℕ → Type 0
 TrailWritten es i output n output' =
     (w : List ℕ) → Trail es i w → length w ≤ length output
@@ -49,15 +50,16 @@ no_room output w =
 abbrev pub trail_refusal : Work → Numbers → List ℕ → List ℕ → Option Refusal
 trail_refusal s claim output w = first_of (claim_refusal s claim Write ∷ no_room output w ∷ [])
 
--- what is answered of a trail: its length, with the trail at the output's front and the rest as found, or
--- the first refusal, which leaves the output as found
+-- what is answered of a trail: its length, with the trail at the output's front and the rest as
+-- found, or the first refusal, which leaves the output as found
 abbrev pub TrailAnswer : Work → Numbers → List ℕ → List ℕ → Result ℕ Refusal → List ℕ → Type 0
 TrailAnswer s claim output w (Ok n) output' =
     (trail_refusal s claim output w ≡ None) × (n ≡ length w) × (output' ≡ overwritten output 0 w)
 TrailAnswer s claim output w (Err e) output' =
     (trail_refusal s claim output w ≡ Some e) × (output' ≡ output)
 
--- the one outcome of a trail for the claim with these numbers: the answer of the trail of the broken pair
+-- the one outcome of a trail for the claim with these numbers: the answer of the trail of the
+-- broken pair
 abbrev pub Trailing : Area → Numbers → List ℕ → Result ℕ Refusal → List ℕ → Type 0
 Trailing a claim output r output' =
     (w : List ℕ) × Trail (said a).pairs (broken_index (said a)) w

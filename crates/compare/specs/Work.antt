@@ -9,8 +9,8 @@ use Rattle.compare.specs.declared.phase.Verdict.TheVariants.{Included}
 use Rattle.compare.specs.Listing.{entries_of}
 use Rattle.compare.specs.Pairs.{start}
 
--- number and serial; the phase; the symbol count and the two state counts, as noted; the listed pairs, and
--- how many are examined
+-- number and serial; the phase; the symbol count and the two state counts, as noted; the listed
+-- pairs, and how many are examined
 pub record Work : Type 0 where
   pub number : ℕ
   pub serial : ℕ
@@ -47,9 +47,9 @@ free number serial = record {
   examined = 0;
 }
 
--- a comparison of two schemas begins: the serial is one higher, the counts are noted, nothing earlier
--- stays; (0, 0) is listed where the first schema's state 0 is live, and otherwise the area is ready with
--- included
+-- a comparison of two schemas begins: the serial is one higher, the counts are noted, nothing
+-- earlier stays; (0, 0) is listed where the first schema's state 0 is live, and otherwise the area
+-- is ready with included
 abbrev pub begun : Work → Tables → Tables → Bool → Work
 begun w T U live = record {
   number = w.number;
@@ -71,6 +71,7 @@ abbrev pub is_free : Phase → Bool
 is_free Free = true
 is_free p = false
 
--- the claim with the serial, of this area, is the holder: there is a comparison, and the claim is of it
+-- the claim with the serial, of this area, is the holder: there is a comparison, and the claim is
+-- of it
 abbrev pub held_by : Work → ℕ → Bool
 held_by w serial = not (is_free w.phase) && serial == w.serial

@@ -1,5 +1,5 @@
--- What writing a document asks of an area: its refusals in their order, and the broken pair that the
--- document is of. Assumes nothing.
+-- What writing a document asks of an area: its refusals in their order, and the broken pair that
+-- the document is of. Assumes nothing.
 use Rattle.std.specs.Prelude.{◌≡◌, ℕ, [], ◌∷◌, Some, None, Option}
 use Rattle.refusal.specs.declared.fault.Refusal.{Refusal}
 use Rattle.refusal.specs.Order.{first_of}
@@ -15,7 +15,8 @@ use Rattle.compare.specs.Refusals.{held_kept_from, phase_refuses}
 use Rattle.compare.specs.Trailing.{broken_index}
 use Rattle.compare.specs.Work.{Work, said}
 
--- what keeps sound schemas from a document of the claim with these numbers, which lends so many row pairs
+-- what keeps sound schemas from a document of the claim with these numbers, which lends so many row
+-- pairs
 abbrev pub write_kept_from : Work → Tables → Tables → Numbers → ℕ → Option Refusal
 write_kept_from w T U claim slots =
     first_of (held_kept_from w T U claim ∷ phase_refuses w Write ∷ short_scratch slots ∷ [])

@@ -177,7 +177,9 @@ impl Area {
 
     /// Whether the noted counts are those of the two schemas.
     fn has_noted<D>(&self, first: &Tested<D>, second: &Tested<D>) -> bool
-        ensures { result ≡ same_counts (said self.now) (tables_of first.now) (tables_of second.now) }
+        ensures {
+            result ≡ same_counts (said self.now) (tables_of first.now) (tables_of second.now)
+        }
     {
         let same_symbols = self.symbols as usize == first.symbols();
         let same_firsts = self.pairs.firsts() as usize == first.states();

@@ -25,7 +25,9 @@ pub fn led_to(pairs: &Pairs, index: usize) -> Option<Listed>
 /// How many symbols the trail of a listed pair has.
 fn trail_length(pairs: &Pairs, index: usize) -> usize
     ensures most { result ≤ index }
-    ensures count { (w : List ℕ) → Trail (entries_of pairs.now) index w → result ≡ length w }
+    ensures count {
+        (w : List ℕ) → Trail (entries_of pairs.now) index w → result ≡ length w
+    }
 {
     match led_to(pairs, index) {
         Some(pair) => trail_length(pairs, pair.parent as usize) + 1,
