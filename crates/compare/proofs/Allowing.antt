@@ -7,7 +7,7 @@ use Rattle.schema.proofs.Sound.{some_not_none, first_none}
 use Rattle.compare.specs.declared.claim.Numbers.{Numbers}
 use Rattle.compare.specs.Refusals.{other_symbols, other_counts, holder_refusal, held_kept_from}
 use Rattle.compare.specs.Stepping.{step_kept_from}
-use Rattle.compare.specs.Work.{Work}
+use Rattle.compare.specs.View.{View}
 
 -- a test that finds nothing fails
 pub fails : (b : Bool) (e : Refusal) → cond b (Some e) None ≡ None → b ≡ false
@@ -15,19 +15,19 @@ fails true e none = absurd (some_not_none none)
 fails false e none = refl
 
 -- the noted counts are those of the schemas
-pub record Allowed (w : Work) (T U : Tables) : Type 0 where
+pub record Allowed (w : View) (T U : Tables) : Type 0 where
   pub symbols : w.symbols ≡ T.symbols
   pub firsts : w.firsts ≡ T.states
   pub seconds : w.seconds ≡ U.states
 
-module _ (w : Work) (T U : Tables) (claim : Numbers) where
+module _ (w : View) (T U : Tables) (claim : Numbers) where
   -- the holder asks, and the noted counts are those of the schemas
   pub held_allows : held_kept_from w T U claim ≡ None → (holder_refusal w claim ≡ None) × (other_counts w T U ≡ None)
   held_allows none =
       let asked = first_none (holder_refusal w claim) _ (first_none (other_symbols w T U) _ none).1 in
       (asked.0, (first_none (other_counts w T U) [] asked.1).0)
 
-module _ (w : Work) (T U : Tables) (claim : Numbers) (n slots : ℕ) where
+module _ (w : View) (T U : Tables) (claim : Numbers) (n slots : ℕ) where
   pub allows : step_kept_from w T U claim n slots ≡ None → Allowed w T U
   allows none =
       let held = first_none (held_kept_from w T U claim) _ none in

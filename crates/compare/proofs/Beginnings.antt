@@ -6,8 +6,8 @@ use Rattle.schema.specs.Faults.{faulty, either_fault}
 use Rattle.schema.specs.Tables.{Tables}
 use Rattle.schema.proofs.Either.{either_none}
 use Rattle.compare.specs.declared.event.Event.{Event}
-use Rattle.compare.specs.Beginning.{kept_from, begin_refusal}
-use Rattle.compare.specs.Work.{Work}
+use Rattle.compare.specs.Beginning.{begin_kept_from, begin_refusal}
+use Rattle.compare.specs.View.{View}
 
 -- of schemas without a fault, what keeps them from the work is the refusal
 pub past_either : (T U : Tables) (k o : Option Refusal) → faulty T ≡ false → faulty U ≡ false → k ≡ o → first_of (either_fault T U ∷ k ∷ []) ≡ o
@@ -17,5 +17,5 @@ past_either T U k o fine also is = ap (λ p. first_of (p ∷ k ∷ [])) (either_
     last (Some x) = refl
     last None = refl
 
-pub past_faults : (w : Work) (T U : Tables) (e : Event) (o : Option Refusal) → faulty T ≡ false → faulty U ≡ false → kept_from w T U e ≡ o → begin_refusal w T U e ≡ o
-past_faults w T U e o = past_either T U (kept_from w T U e) o
+pub past_faults : (w : View) (T U : Tables) (e : Event) (o : Option Refusal) → faulty T ≡ false → faulty U ≡ false → begin_kept_from w T U e ≡ o → begin_refusal w T U e ≡ o
+past_faults w T U e o = past_either T U (begin_kept_from w T U e) o

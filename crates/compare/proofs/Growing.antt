@@ -10,7 +10,7 @@ use Rattle.search.specs.Paths.{BreadthFirst, Met}
 use Rattle.search.proofs.Paths.{word_kept, word_pushed}
 use Rattle.search.proofs.Places.{nth_kept, nth_new, nth_cases}
 use Rattle.compare.specs.declared.pairs.Listed.{Listed}
-use Rattle.compare.specs.Growing.{Path, Reached, Passed}
+use Rattle.compare.specs.Invariant.{StatePath, Reached, Passed}
 use Rattle.compare.specs.Listing.{pair_links, pair_of}
 use Rattle.compare.specs.Pairs.{start, listed, with_pair}
 use Rattle.compare.specs.Stepping.{next_pair, with_found, with_nexts}
@@ -38,7 +38,7 @@ pub met_listed : (es : List Listed) (i a s u : ℕ) → Met pair_links es pair_o
 met_listed es i a s u m = subst (λ (n : ℕ × ℕ). listed es n.0 n.1 ≡ true) m.same (listed_nth es m.at m.entry m.is)
 
 -- one symbol more
-path_on : (B : Automaton) (w : List ℕ) (p q a s : ℕ) → Path B p w q → B.next q a ≡ Some s → Path B p (w ++ a ∷ []) s
+path_on : (B : Automaton) (w : List ℕ) (p q a s : ℕ) → StatePath B p w q → B.next q a ≡ Some s → StatePath B p (w ++ a ∷ []) s
 path_on B [] p q a s e is = (s, ap (λ (k : ℕ). B.next k a) e ∙ is, refl)
 path_on B (b ∷ w) p q a s path is = (path.0, path.1, path_on B w path.0 q a s path.2 is)
 
@@ -57,7 +57,7 @@ module _ (A B : Automaton) where
         let before : x.parent < j = omega (arith, behind, new.0, slice_get_within es i e at) in
         let below : Trail (es ++ x ∷ []) x.parent r.0 = subst (λ (k : ℕ). Trail (es ++ x ∷ []) k r.0) (sym behind) (word_kept pair_links es (es ++ x ∷ []) (nth_kept x es) i r.0 r.1) in
         let there : slice_get (es ++ x ∷ []) j ≡ Some x = ap (slice_get (es ++ x ∷ [])) new.0 ∙ nth_new x es in
-        subst (λ (g : Listed). (w : List ℕ) × Trail (es ++ x ∷ []) j w × LivePath A 0 w g.first × Path B 0 w g.second) new.1 (
+        subst (λ (g : Listed). (w : List ℕ) × Trail (es ++ x ∷ []) j w × LivePath A 0 w g.first × StatePath B 0 w g.second) new.1 (
           r.0 ++ x.symbol ∷ [],
           word_pushed pair_links (es ++ x ∷ []) j x r.0 there before below,
           path_push A r.0 0 e.first x.symbol x.first r.2 live first,

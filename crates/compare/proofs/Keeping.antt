@@ -88,9 +88,9 @@ module _ (n m : ℕ) (slots : List Listed) (k : ℕ) (bits : List ℕ) where
   blank_at i = ltb i k || is_blank (get_or slots i start)
 
   -- what is kept, in plain facts
-  pub kept_tells : kept_pairs n m slots k bits ≡ true → Kept n m slots k bits
+  pub kept_pairs_tell : kept_pairs n m slots k bits ≡ true → Kept n m slots k bits
   unfolding kept_pairs all_fit none_twice bits_say blank_from
-  kept_tells h =
+  kept_pairs_tell h =
       let halves = and_parts ((leb n 64 && leb m 64) && leb k 4096) _ h in
       let counts = and_parts (leb n 64 && leb m 64) (leb k 4096) halves.0 in
       let states = and_parts (leb n 64) (leb m 64) counts.0 in
@@ -118,9 +118,9 @@ module _ (n m : ℕ) (slots : List Listed) (k : ℕ) (bits : List ℕ) where
       }
 
   -- and back
-  pub kept_from : Kept n m slots k bits → kept_pairs n m slots k bits ≡ true
+  pub kept_pairs_from : Kept n m slots k bits → kept_pairs n m slots k bits ≡ true
   unfolding kept_pairs all_fit none_twice bits_say blank_from
-  kept_from h =
+  kept_pairs_from h =
       let many : length es ≡ k = length-take-le k slots (omega (arith, h.short, h.slots_long)) in
       and_from _ _
       (and_from _ _ (and_from _ _ (le-leb n 64 h.few_firsts) (le-leb m 64 h.few_seconds)) (le-leb k 4096 h.short))

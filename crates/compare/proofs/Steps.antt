@@ -9,13 +9,13 @@ use Rattle.search.proofs.Visits.{listed_more}
 use Rattle.compare.specs.declared.pairs.Listed.{Listed}
 use Rattle.compare.specs.Pairs.{start, is_of, listed, kept_pairs, Fits}
 use Rattle.compare.proofs.Crowding.{few, room}
-use Rattle.compare.proofs.Keeping.{Kept, kept_from}
+use Rattle.compare.proofs.Keeping.{Kept, kept_pairs_from}
 use Rattle.compare.proofs.Standing.{listed_push, listed_tells}
 
 -- with no entry every slot is start and every bit 0
 pub kept_none : (n m : ℕ) → n ≤ 64 → m ≤ 64 → kept_pairs n m (replicate 4096 start) 0 (replicate 64 0) ≡ true
 kept_none n m some-firsts some-seconds =
-    kept_from n m (replicate 4096 start) 0 (replicate 64 0)
+    kept_pairs_from n m (replicate 4096 start) 0 (replicate 64 0)
     (record {
       few_firsts = some-firsts;
       few_seconds = some-seconds;
@@ -95,7 +95,7 @@ module _ (n m : ℕ) (slots : List Listed) (k : ℕ) (bits : List ℕ) (so : Kep
     -- with one entry more in its slot, and its bit set
     pub kept_more : (mask : ℕ) → mask < 2 ^ 64 → ((i : ℕ) → bit mask i ≡ (bit (get_or bits e.first 0) i || (ltb e.second 64 && eqb e.second i))) → kept_pairs n m (set slots k e) (k + 1) (set bits e.first mask) ≡ true
     kept_more mask Fits-mask adds =
-        kept_from n m (set slots k e) (k + 1) (set bits e.first mask)
+        kept_pairs_from n m (set slots k e) (k + 1) (set bits e.first mask)
         (record {
           few_firsts = so.few_firsts;
           few_seconds = so.few_seconds;

@@ -12,16 +12,16 @@ use Rattle.compare.specs.declared.phase.Phase.{Phase}
 use Rattle.compare.specs.declared.phase.Phase.TheVariants as phase
 use Rattle.compare.specs.Phases.{decided}
 use Rattle.compare.specs.Refusals.{where_found, by_phase, other_symbols, other_counts, holder_refusal, held_kept_from}
-use Rattle.compare.specs.Strangers.{is_holder, stranger}
-use Rattle.compare.specs.Work.{Work, is_free}
+use Rattle.compare.specs.NotHolder.{is_holder, refusal_of_not_holder}
+use Rattle.compare.specs.View.{View, is_free}
 
-module _ (w : Work) (n : Numbers) where
+module _ (w : View) (n : Numbers) where
   -- the tests, by whether the area and the serial are the same, and the phase
   abbrev tests : Bool → Bool → Phase → Option Refusal
   tests s t p = first_of (where_found (not s) w Foreign ∷ where_found (not t) w Ousted ∷ by_phase w (decided p Hold) ∷ [])
 
   -- numbers that are not the holder's are refused
-  pub holder_refused : is_holder w n ≡ false → holder_refusal w n ≡ Some (stranger w n)
+  pub holder_refused : is_holder w n ≡ false → holder_refusal w n ≡ Some (refusal_of_not_holder w n)
   holder_refused other = by (eqb n.area w.number) (eqb n.serial w.serial) w.phase other
     where
       by : (s t : Bool) (p : Phase) → (s && (not (is_free p) && t)) ≡ false → tests s t p ≡ Some (record { fault = cond s Ousted Foreign; place = w.serial })
@@ -60,9 +60,9 @@ module _ (w : Work) (n : Numbers) where
       by true true (phase.Apart k) its = refl
 
   -- two schemas and numbers that are not the holder's
-  pub held_refused : (T U : Tables) → is_holder w n ≡ false → held_kept_from w T U n ≡ first_of (other_symbols w T U ∷ Some (stranger w n) ∷ [])
+  pub held_refused : (T U : Tables) → is_holder w n ≡ false → held_kept_from w T U n ≡ first_of (other_symbols w T U ∷ Some (refusal_of_not_holder w n) ∷ [])
   held_refused T U other = ap (λ o. first_of (other_symbols w T U ∷ o ∷ other_counts w T U ∷ [])) (holder_refused other) ∙ by (other_symbols w T U)
     where
-      by : (o : Option Refusal) → first_of (o ∷ Some (stranger w n) ∷ other_counts w T U ∷ []) ≡ first_of (o ∷ Some (stranger w n) ∷ [])
+      by : (o : Option Refusal) → first_of (o ∷ Some (refusal_of_not_holder w n) ∷ other_counts w T U ∷ []) ≡ first_of (o ∷ Some (refusal_of_not_holder w n) ∷ [])
       by (Some e) = refl
       by None = refl

@@ -11,7 +11,7 @@ use Rattle.compare.specs.declared.area.Area.{Area}
 use Rattle.compare.specs.declared.pairs.Listed.{Listed}
 use Rattle.compare.specs.Listing.{entries_of, pair_links}
 use Rattle.compare.specs.Trailing.{Trail, OneTrail, EveryTrail, TrailWritten, led_to, broken_index}
-use Rattle.compare.specs.Work.{said}
+use Rattle.compare.specs.View.{view}
 use Rattle.compare.proofs.Views.{entries_fit}
 
 -- no entry has two trails
@@ -23,7 +23,7 @@ pub every_trail : EveryTrail
 every_trail p i inside = some_word pair_links (entries_of p) (λ j e there low. (entries_fit p j e there).led low) i inside
 
 -- the broken pair has a trail
-pub broken_trail : (a : Area) → (w : List ℕ) × Trail (said a).pairs (broken_index (said a)) w
+pub broken_trail : (a : Area) → (w : List ℕ) × Trail (view a).pairs (broken_index (view a)) w
 broken_trail a = by (ltb (a.examined - 1) (length (entries_of a.pairs))) refl
   where
     by : (t : Bool) → ltb (a.examined - 1) (length (entries_of a.pairs)) ≡ t → (w : List ℕ) × Trail (entries_of a.pairs) (cond t (a.examined - 1) 0) w

@@ -15,13 +15,13 @@ use Rattle.compare.specs.declared.pairs.Listed.{Listed}
 use Rattle.compare.specs.declared.pairs.Pairs.{Pairs}
 use Rattle.compare.specs.Listing.{entries_of, FewPairs, EntriesFit, ListedOnce, Determined}
 use Rattle.compare.specs.Pairs.{start, listed, fits, with_pair, after_listing, kept_pairs, Fits}
-use Rattle.compare.proofs.Keeping.{Kept, fits_tells, kept_tells}
+use Rattle.compare.proofs.Keeping.{Kept, fits_tells, kept_pairs_tell}
 use Rattle.compare.proofs.Standing.{listed_nth}
 use Rattle.compare.proofs.Steps.{many, few_kept, none_past_masks, says, room_left, pushed, kept_more}
 
 -- what is kept of a list of pairs, in plain facts
 pub kept_of : (p : Pairs) → Kept p.firsts p.seconds p.entries p.length p.bits
-kept_of p = kept_tells p.firsts p.seconds p.entries p.length p.bits p.sound
+kept_of p = kept_pairs_tell p.firsts p.seconds p.entries p.length p.bits p.sound
 
 -- there are as many entries as the length says
 pub many_of : (p : Pairs) → length (entries_of p) ≡ p.length

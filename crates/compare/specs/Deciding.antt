@@ -22,7 +22,7 @@ use Rattle.compare.specs.Concluding.{Conclusion, Frees, GivingUp}
 use Rattle.compare.specs.Phases.{decided}
 use Rattle.compare.specs.Stepping.{Turns, Stepping}
 use Rattle.compare.specs.Trailing.{Trailing}
-use Rattle.compare.specs.Work.{said, free, in_phase}
+use Rattle.compare.specs.View.{view, free, in_phase}
 
 -- a comparison is begun where the table begins one, and nowhere else
 unfoldable pub BeginsAsDecided : Event → Type 0
@@ -33,7 +33,7 @@ BeginsAsDecided e =
 -- what an accepted step does by a decision: it examines, in one turn at least; or the area stays as
 -- it was, and 0 pairs and a standing verdict are answered
 abbrev pub StepsBy : Automaton → Automaton → Decision → Area → ℕ × ℕ → Area → Type 0
-StepsBy A B Examine a answer a' = (k : ℕ) × Turns A B (suc k) (said a) (said a')
+StepsBy A B Examine a answer a' = (k : ℕ) × Turns A B (suc k) (view a) (view a')
 StepsBy A B Stay a answer a' = (answer ≡ (0, 1)) × (a' ≡ a)
 StepsBy A B d a answer a' = ⊥
 
@@ -48,8 +48,8 @@ StepsAsDecided =
 -- what an accepted conclusion comes to by a decision: released, it is included, and the area is
 -- free; parted by a kind, it is apart by that kind, and so is the area
 abbrev pub ConcludesBy : Decision → Area → Concluded → Area → Type 0
-ConcludesBy Release a (Included n) a' = said a' ≡ free a.number a.serial
-ConcludesBy (Part k) a (Apart l n claim) a' = (l ≡ k) × (said a' ≡ in_phase (said a) (phase.Apart k))
+ConcludesBy Release a (Included n) a' = view a' ≡ free a.number a.serial
+ConcludesBy (Part k) a (Apart l n claim) a' = (l ≡ k) × (view a' ≡ in_phase (view a) (phase.Apart k))
 ConcludesBy d a c a' = ⊥
 
 -- an accepted conclusion comes to what the table decides

@@ -3,10 +3,10 @@
 use Rattle.compare.specs.declared.event.Event.{Event}
 use Rattle.compare.specs.Breaking.{ClosedCarries, BrokenTells, OnwardTells, UnbrokenOnward}
 use Rattle.compare.specs.Deciding.{BeginsAsDecided, StepsAsDecided, ConcludesAsDecided, ConclusionEarly, TrailsAsDecided, TrailNotEarly, GivesUpAsDecided}
-use Rattle.compare.specs.Growing.{BeginsGrown, StepsGrown, GrownSame, ConcludesGrown, IncludedCarries, ApartTells}
+use Rattle.compare.specs.Invariant.{InvariantBegins, InvariantSteps, InvariantSame, InvariantConcludes, IncludedCarries, ApartTells}
 use Rattle.compare.specs.Listing.{FewPairs, EntriesFit, ListedOnce, Determined}
 use Rattle.compare.specs.Outcomes.{OneBeginning, OneStepping, OneConclusion, OneTrailing, OneGivingUp}
-use Rattle.compare.specs.Strangers.{StepOfStranger, ConclusionOfStranger, TrailOfStranger, GivingUpOfStranger}
+use Rattle.compare.specs.NotHolder.{StepByNotHolder, ConclusionByNotHolder, TrailByNotHolder, GivingUpByNotHolder}
 use Rattle.compare.specs.Trailing.{OneTrail, EveryTrail}
 
 -- of a list of pairs
@@ -25,25 +25,25 @@ pub record PairLaws : Type 0 where
 
 -- of taking, and of ousting
 pub record BeginLaws (e : Event) : Type 0 where
-  pub grown : BeginsGrown
+  pub grown : InvariantBegins
   pub one : OneBeginning
   pub table : BeginsAsDecided e
 
 -- of stepping
 pub record StepLaws : Type 0 where
-  pub grown : StepsGrown
-  pub same : GrownSame
-  pub stranger : StepOfStranger
+  pub grown : InvariantSteps
+  pub same : InvariantSame
+  pub stranger : StepByNotHolder
   pub one : OneStepping
   pub few : FewPairs
   pub table : StepsAsDecided
 
 -- of concluding
 pub record ConcludeLaws : Type 0 where
-  pub grown : ConcludesGrown
+  pub grown : InvariantConcludes
   pub included : IncludedCarries
   pub apart : ApartTells
-  pub stranger : ConclusionOfStranger
+  pub stranger : ConclusionByNotHolder
   pub one : OneConclusion
   pub table : ConcludesAsDecided
   pub early : ConclusionEarly
@@ -52,13 +52,13 @@ pub record ConcludeLaws : Type 0 where
 pub record TrailLaws : Type 0 where
   pub one : OneTrail
   pub every : EveryTrail
-  pub stranger : TrailOfStranger
+  pub stranger : TrailByNotHolder
   pub answer : OneTrailing
   pub table : TrailsAsDecided
   pub early : TrailNotEarly
 
 -- of giving up
 pub record GiveUpLaws : Type 0 where
-  pub stranger : GivingUpOfStranger
+  pub stranger : GivingUpByNotHolder
   pub one : OneGivingUp
   pub table : GivesUpAsDecided

@@ -16,10 +16,10 @@ use Rattle.compare.specs.declared.phase.Phase.TheVariants as phase
 use Rattle.compare.specs.declared.phase.Verdict.TheVariants as verdict
 use Rattle.compare.specs.Beginning.{Beginning}
 use Rattle.compare.specs.Concluding.{Conclusion, GivingUp}
-use Rattle.compare.specs.Growing.{LastBroken}
+use Rattle.compare.specs.Invariant.{LastBroken}
 use Rattle.compare.specs.Stepping.{Stepping}
 use Rattle.compare.specs.Trailing.{Trailing}
-use Rattle.compare.specs.Work.{Work, said, in_phase}
+use Rattle.compare.specs.View.{View, view, in_phase}
 
 -- the same is answered, where a relation says when two values are the same; refusals are equal, and
 -- what goes back with them too
@@ -40,7 +40,7 @@ SameConclusion c d = ⊥
 
 -- the same is said of two areas; or both are ready with apart, and differ at most in the kind: then
 -- the pair examined last is broken in both ways
-abbrev pub ButForKind : Automaton → Automaton → Work → Work → Type 0
+abbrev pub ButForKind : Automaton → Automaton → View → View → Type 0
 ButForKind A B w v =
     (v ≡ w)
     ⊎ ((k l : Kind)
@@ -63,7 +63,7 @@ OneStepping =
     (T U : Tables) (sets others : List (ℕ → Bool)) (claim : Numbers) (n slots : ℕ)
     (a : Area) (r s : Result (ℕ × ℕ) Refusal) (b c : Area)
     → Stepping T U sets others claim n slots a r b → Stepping T U sets others claim n slots a s c
-    → (r ≡ s) × ButForKind (automaton T sets) (automaton U others) (said b) (said c)
+    → (r ≡ s) × ButForKind (automaton T sets) (automaton U others) (view b) (view c)
 
 -- a conclusion has one answer, and leaves one area
 unfoldable pub OneConclusion : Type 0

@@ -9,7 +9,7 @@ use Rattle.compare.specs.declared.compared.Compared.{Compared}
 use Rattle.compare.specs.declared.pairs.Pairs.{Pairs}
 use Rattle.compare.specs.declared.phase.Kind.{Kind}
 use Rattle.compare.specs.Breaking.{Broken, Unbroken}
-use Rattle.compare.specs.Work.{Work, begun}
+use Rattle.compare.specs.View.{View, begun}
 
 -- a state of the first schema, and one of the second
 abbrev pub StatePair : {D : Type 0} → Compared D → ℕ → ℕ → Type 0
@@ -34,7 +34,7 @@ module _ {D : Type 0} (holds : D → ℕ → Bool) (c : Compared D) where
   BrokenOrNot p q None = Unbroken (meaning holds c.first.now) (meaning holds c.second.now) p q
 
 -- the counts that the area noted are those of the two schemas
-pub record Noted {D : Type 0} (c : Compared D) (w : Work) : Type 0 where
+pub record Noted {D : Type 0} (c : Compared D) (w : View) : Type 0 where
   pub symbols : w.symbols ≡ symbols_of c.first.now
   pub firsts : w.firsts ≡ states_of c.first.now
   pub seconds : w.seconds ≡ states_of c.second.now
@@ -45,5 +45,5 @@ pub record Inside {D : Type 0} (c : Compared D) (pairs : Pairs) : Type 0 where
   pub seconds : pairs.seconds ≡ states_of c.second.now
 
 -- a comparison of the two schemas begins
-abbrev pub begun_by : {D : Type 0} → Compared D → Work → Work
+abbrev pub begun_by : {D : Type 0} → Compared D → View → View
 begun_by c w = begun w (tables_of c.first.now) (tables_of c.second.now) (bit c.live 0)

@@ -12,7 +12,7 @@ use Rattle.compare.specs.declared.pairs.Listed.{Listed}
 use Rattle.compare.specs.declared.pairs.Pairs.{Pairs}
 use Rattle.compare.specs.Concluding.{claim_refusal}
 use Rattle.compare.specs.Listing.{entries_of, pair_links}
-use Rattle.compare.specs.Work.{Work, said}
+use Rattle.compare.specs.View.{View, view}
 
 -- the trail of an entry: the symbols that lead to it from the first entry
 abbrev pub Trail : List Listed → ℕ → List ℕ → Type 0
@@ -38,7 +38,7 @@ TrailWritten es i output n output' =
     → (n ≡ length w) × (output' ≡ overwritten output 0 w)
 
 -- the index of the pair that was examined last, and 0 where no pair is listed there
-abbrev pub broken_index : Work → ℕ
+abbrev pub broken_index : View → ℕ
 broken_index w = cond (nat_lt (w.examined - 1) (length w.pairs)) (w.examined - 1) 0
 
 -- `room`: the output is too short for the bytes, and the place is how many are needed
@@ -47,12 +47,12 @@ no_room output w =
     cond (nat_lt (length output) (length w)) (Some (record { fault = Room; place = length w })) None
 
 -- the refusal of writing a trail: what is refused of the claim, or `room`
-abbrev pub trail_refusal : Work → Numbers → List ℕ → List ℕ → Option Refusal
+abbrev pub trail_refusal : View → Numbers → List ℕ → List ℕ → Option Refusal
 trail_refusal s claim output w = first_of (claim_refusal s claim Write ∷ no_room output w ∷ [])
 
 -- what is answered of a trail: its length, with the trail at the output's front and the rest as
 -- found, or the first refusal, which leaves the output as found
-abbrev pub TrailAnswer : Work → Numbers → List ℕ → List ℕ → Result ℕ Refusal → List ℕ → Type 0
+abbrev pub TrailAnswer : View → Numbers → List ℕ → List ℕ → Result ℕ Refusal → List ℕ → Type 0
 TrailAnswer s claim output w (Ok n) output' =
     (trail_refusal s claim output w ≡ None) × (n ≡ length w) × (output' ≡ overwritten output 0 w)
 TrailAnswer s claim output w (Err e) output' =
@@ -62,5 +62,5 @@ TrailAnswer s claim output w (Err e) output' =
 -- broken pair
 abbrev pub Trailing : Area → Numbers → List ℕ → Result ℕ Refusal → List ℕ → Type 0
 Trailing a claim output r output' =
-    (w : List ℕ) × Trail (said a).pairs (broken_index (said a)) w
-    × TrailAnswer (said a) claim output w r output'
+    (w : List ℕ) × Trail (view a).pairs (broken_index (view a)) w
+    × TrailAnswer (view a) claim output w r output'

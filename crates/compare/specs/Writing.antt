@@ -13,15 +13,15 @@ use Rattle.compare.specs.declared.phase.Phase.TheVariants.{Apart}
 use Rattle.compare.specs.declared.writing.BrokenPair.{BrokenPair}
 use Rattle.compare.specs.Refusals.{held_kept_from, phase_refuses}
 use Rattle.compare.specs.Trailing.{broken_index}
-use Rattle.compare.specs.Work.{Work, said}
+use Rattle.compare.specs.View.{View, view}
 
 -- what keeps sound schemas from a document of the claim with these numbers, which lends so many row
 -- pairs
-abbrev pub write_kept_from : Work → Tables → Tables → Numbers → ℕ → Option Refusal
+abbrev pub write_kept_from : View → Tables → Tables → Numbers → ℕ → Option Refusal
 write_kept_from w T U claim slots =
     first_of (held_kept_from w T U claim ∷ phase_refuses w Write ∷ short_scratch slots ∷ [])
 
 -- the broken pair of an area that is apart, with the list that it stands in
 abbrev pub BrokenOf : Area → Option BrokenPair → Type 0
-BrokenOf a (Some b) = (a.phase ≡ Apart b.kind) × (b.pairs.now ≡ a.pairs) × (b.index ≡ broken_index (said a))
+BrokenOf a (Some b) = (a.phase ≡ Apart b.kind) × (b.pairs.now ≡ a.pairs) × (b.index ≡ broken_index (view a))
 BrokenOf a None = (k : Kind) → a.phase ≡ Apart k → ⊥

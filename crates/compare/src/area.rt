@@ -2,12 +2,12 @@
 //! are examined.
 ghost use Rattle.refusal.specs.Order.{Refuses};
 ghost use Rattle.std.specs.Prelude.{◌≡◌, false, ◌==◌};
-ghost use Rattle.compare.specs.Beginning.{«kept_from»};
+ghost use Rattle.compare.specs.Beginning.{begin_kept_from};
 ghost use Rattle.compare.specs.Concluding.{claim_refusal};
 ghost use Rattle.compare.specs.Refusals.{phase_refuses, holder_refusal};
 ghost use Rattle.compare.specs.Schemas.{begun_by};
 ghost use Rattle.schema.specs.Meaning.{tables_of};
-ghost use Rattle.compare.specs.Work.{said, free};
+ghost use Rattle.compare.specs.View.{view, free};
 
 use crate::claim::{Claim, Numbers};
 use crate::compared::Compared;
@@ -38,7 +38,7 @@ pub const LAST_SERIAL: u32 = u32::MAX;
 // No method of the type, nor is any other call that only our own crates may make: callers get the
 // type with its methods.
 pub fn free_area(number: u32) -> Area
-    ensures { said result ≡ free number 0 }
+    ensures { view result ≡ free number 0 }
 {
     Area {
         number,
@@ -60,7 +60,7 @@ pub fn refusal(area: &Area, fault: Fault) -> Refusal
 impl Area {
     /// Refuses what the phase refuses of an event.
     pub(crate) fn permits(&self, event: Event) -> Result<(), Refusal>
-        ensures { Refuses (phase_refuses (said self.now) event) result }
+        ensures { Refuses (phase_refuses (view self.now) event) result }
     {
         match decide(self.phase, event) {
             Decision::Refuse(fault) => Err(refusal(self, fault)),
@@ -80,7 +80,7 @@ impl Area {
         event: Event,
     ) -> Result<(), Refusal>
         ensures { Refuses
-            (kept_from (said self.now) (tables_of first.now) (tables_of second.now) event)
+            (begin_kept_from (view self.now) (tables_of first.now) (tables_of second.now) event)
             result }
     {
         if first.symbols() != second.symbols() {
@@ -96,7 +96,7 @@ impl Area {
     /// Begins a comparison of two schemas. Nothing earlier stays.
     pub(crate) fn start<D>(&mut self, compared: &Compared<D>)
         requires { (self.old.serial == LAST_SERIAL) ≡ false }
-        ensures { said self.new ≡ begun_by compared.now (said self.old) }
+        ensures { view self.new ≡ begun_by compared.now (view self.old) }
     {
         self.serial += 1;
         self.symbols = compared.first.symbols() as u8;
@@ -125,7 +125,7 @@ impl Area {
 
     /// Refuses numbers that are not the holder's: `foreign` or `ousted`.
     pub(crate) fn permits_holder(&self, claim: Numbers) -> Result<(), Refusal>
-        ensures { Refuses (holder_refusal (said self.now) claim) result }
+        ensures { Refuses (holder_refusal (view self.now) claim) result }
     {
         if claim.area != self.number {
             return Err(refusal(self, Fault::Foreign));
@@ -139,7 +139,7 @@ impl Area {
     /// Refuses what is refused of the claim with these numbers: `foreign`, `ousted`, or what the
     /// phase refuses.
     pub(crate) fn permits_claim(&self, claim: Numbers, event: Event) -> Result<(), Refusal>
-        ensures { Refuses (claim_refusal (said self.now) claim event) result }
+        ensures { Refuses (claim_refusal (view self.now) claim event) result }
     {
         self.permits_holder(claim)?;
         self.permits(event)
@@ -147,7 +147,7 @@ impl Area {
 
     /// Frees the area: nothing of the comparison stays.
     pub(crate) fn release(&mut self)
-        ensures { said self.new ≡ free self.old.number self.old.serial }
+        ensures { view self.new ≡ free self.old.number self.old.serial }
     {
         self.phase = Phase::Free;
         self.symbols = 0;

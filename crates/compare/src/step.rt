@@ -10,7 +10,7 @@ ghost use Rattle.compare.specs.Listing.{entries_of};
 ghost use Rattle.compare.specs.Refusals.{same_counts, held_kept_from};
 ghost use Rattle.compare.specs.Schemas.{StatePair, MarksLive, Noted, Inside};
 ghost use Rattle.compare.specs.Stepping.{Stepping, step_kept_from, is_running};
-ghost use Rattle.compare.specs.Work.{said};
+ghost use Rattle.compare.specs.View.{view};
 
 use crate::area::{Area, refusal};
 use crate::claim::Numbers;
@@ -80,9 +80,9 @@ impl Area {
     /// Lists what an unbroken pair leads to; the pair is at a place of the list. The verdict stands
     /// where no pair is left behind it.
     fn go_on<D: Domain>(&mut self, compared: &Compared<D>, pair: Listed, place: u16)
-        ensures { Noted compared.now (said self.old) → MarksLive D.Domain.holds compared.now →
+        ensures { Noted compared.now (view self.old) → MarksLive D.Domain.holds compared.now →
             StatePair compared.now pair.first pair.second → place < length (entries_of self.old.pairs) →
-            GoesOnIn D.Domain.holds compared.now (said self.old) pair place (said self.new) }
+            GoesOnIn D.Domain.holds compared.now (view self.old) pair place (view self.new) }
     {
         let symbols = compared
             .first
@@ -102,8 +102,8 @@ impl Area {
 
     /// Examines the next pair of the list; where none is left, the area is ready with included.
     fn examine<D: Domain>(&mut self, compared: &Compared<D>, slots: &mut RowSlots)
-        ensures { Noted compared.now (said self.old) → MarksLive D.Domain.holds compared.now →
-            TurnIn D.Domain.holds compared.now (said self.old) (said self.new) }
+        ensures { Noted compared.now (view self.old) → MarksLive D.Domain.holds compared.now →
+            TurnIn D.Domain.holds compared.now (view self.old) (view self.new) }
     {
         let Some(pair) = self.pairs.entry(self.examined as usize) else {
             self.phase = Phase::Ready(Verdict::Included);
@@ -120,8 +120,8 @@ impl Area {
 
     /// Examines up to so many pairs, until the verdict stands.
     fn examine_up_to<D: Domain>(&mut self, compared: &Compared<D>, steps: u32, slots: &mut RowSlots)
-        ensures { Noted compared.now (said self.old) → MarksLive D.Domain.holds compared.now →
-            SteppedIn D.Domain.holds compared.now steps (said self.old) (said self.new) }
+        ensures { Noted compared.now (view self.old) → MarksLive D.Domain.holds compared.now →
+            SteppedIn D.Domain.holds compared.now steps (view self.old) (view self.new) }
     {
         for _ in 0..steps {
             if let Decision::Examine = decide(self.phase, Event::Step) {
@@ -143,7 +143,7 @@ impl Area {
         scratch: &'a mut [RowPair],
     ) -> Result<RowSlots<'a>, Refusal>
         ensures { Refuses
-            (step_kept_from (said self.now) (tables_of first.now) (tables_of second.now) claim steps (length scratch.old))
+            (step_kept_from (view self.now) (tables_of first.now) (tables_of second.now) claim steps (length scratch.old))
             result }
     {
         self.permits_held(first, second, claim)?;
@@ -162,7 +162,7 @@ impl Area {
         claim: Numbers,
     ) -> Result<(), Refusal>
         ensures { Refuses
-            (held_kept_from (said self.now) (tables_of first.now) (tables_of second.now) claim)
+            (held_kept_from (view self.now) (tables_of first.now) (tables_of second.now) claim)
             result }
     {
         if first.symbols() != second.symbols() {
@@ -178,7 +178,7 @@ impl Area {
     /// Whether the noted counts are those of the two schemas.
     fn has_noted<D>(&self, first: &Tested<D>, second: &Tested<D>) -> bool
         ensures {
-            result ≡ same_counts (said self.now) (tables_of first.now) (tables_of second.now)
+            result ≡ same_counts (view self.now) (tables_of first.now) (tables_of second.now)
         }
     {
         let same_symbols = self.symbols as usize == first.symbols();

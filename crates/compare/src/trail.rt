@@ -4,7 +4,7 @@ ghost use Rattle.compare.specs.Claims.{less_claim, ComesBack};
 ghost use Rattle.compare.specs.Laws.{TrailLaws};
 ghost use Rattle.compare.specs.Listing.{entries_of};
 ghost use Rattle.compare.specs.Trailing.{Trail, Trailing, TrailWritten, led_to, broken_index};
-ghost use Rattle.compare.specs.Work.{said};
+ghost use Rattle.compare.specs.View.{view};
 
 use crate::area::Area;
 use crate::claim::{ConcludedApart, Lease};
@@ -55,7 +55,7 @@ fn write_trail(pairs: &Pairs, index: usize, output: &mut [u8]) -> usize
 
 /// The index of the broken pair: the one that was examined last.
 pub(crate) fn broken_index(area: &Area) -> usize
-    ensures { result ≡ broken_index (said area.now) }
+    ensures { result ≡ broken_index (view area.now) }
 {
     let last = area.examined.saturating_sub(1) as usize;
     if last < area.pairs.length() { last } else { 0 }

@@ -3,7 +3,7 @@
 ghost use Rattle.std.specs.Prelude.{length};
 ghost use Rattle.refusal.specs.Order.{Refuses};
 ghost use Rattle.schema.specs.Meaning.{tables_of};
-ghost use Rattle.compare.specs.Work.{said};
+ghost use Rattle.compare.specs.View.{view};
 ghost use Rattle.compare.specs.Writing.{write_kept_from, BrokenOf};
 
 use crate::area::Area;
@@ -36,7 +36,7 @@ pub fn permits_write<'a, D>(
     scratch: &'a mut [RowPair],
 ) -> Result<RowSlots<'a>, Refusal>
     ensures { Refuses
-        (write_kept_from (said area.now) (tables_of first.now) (tables_of second.now) claim (length scratch.old))
+        (write_kept_from (view area.now) (tables_of first.now) (tables_of second.now) claim (length scratch.old))
         result }
 {
     area.permits_held(first, second, claim)?;

@@ -23,7 +23,7 @@ use Rattle.schema.specs.Meaning.{tables_of}
 use Rattle.compare.specs.Listing.{entries_of}
 use Rattle.compare.specs.Refusals.{other_counts, held_kept_from}
 use Rattle.compare.specs.Trailing.{broken_index}
-use Rattle.compare.specs.Work.{Work, said}
+use Rattle.compare.specs.View.{View, view}
 use Rattle.compare.specs.Writing.{write_kept_from, BrokenOf}
 use Rattle.compare.proofs.Allowing.{fails, held_allows}
 use Rattle.samples.specs.declared.node.NodeKey.{NodeKey}
@@ -49,7 +49,7 @@ pub err_none : {X E : Type 0} (o : Option X) (e y : E) → Err y ≡ ok_or o e �
 err_none (Some x) e y is = absurd (cc)
 err_none None e y is = (refl, cc)
 
-module _ (w : Work) (T U : Tables) (claim : Numbers) (slots levels : ℕ) where
+module _ (w : View) (T U : Tables) (claim : Numbers) (slots levels : ℕ) where
   -- where nothing is refused the counts are those noted, and what is lent suffices
   pub allowed_by : kept_from w T U claim slots levels ≡ None → (other_counts w T U ≡ None) × (LEVELS ≤ levels)
   allowed_by none =
@@ -59,7 +59,7 @@ module _ (w : Work) (T U : Tables) (claim : Numbers) (slots levels : ℕ) where
       ((held_allows w T U claim held.0).1, ltb-false levels LEVELS (fails _ _ last.0))
 
 -- the state counts noted are those of the schemas
-pub counts_of : (w : Work) (T U : Tables) → other_counts w T U ≡ None → (w.firsts ≡ T.states) × (w.seconds ≡ U.states)
+pub counts_of : (w : View) (T U : Tables) → other_counts w T U ≡ None → (w.firsts ≡ T.states) × (w.seconds ≡ U.states)
 counts_of w T U none =
     let all = not-false _ (fails _ _ none) in
     let others = and_parts _ _ (and_parts _ _ all).1 in
@@ -67,27 +67,27 @@ counts_of w T U none =
 
 module _ (A B : Automaton) (a : Area) (b : BrokenPair) (of : BrokenOf a (Some b)) where
   -- the document that is traced is the area's
-  pub found_in : (way : List Listed) (t : Tree) → DocumentOf A B b.kind (entries_of b.pairs.now) b.index way t → DocumentIn A B (said a) way t
+  pub found_in : (way : List Listed) (t : Tree) → DocumentOf A B b.kind (entries_of b.pairs.now) b.index way t → DocumentIn A B (view a) way t
   found_in way t d =
       let pairs = subst (λ (p : Pairs). DocumentOf A B b.kind (entries_of p) b.index way t) of.1 d in
       (b.kind, of.0, subst (λ (i : ℕ). DocumentOf A B b.kind (entries_of a.pairs) i way t) of.2 pairs)
 
   -- and where none is there the area has none
-  pub none_in : ((way : List Listed) (t : Tree) → DocumentOf A B b.kind (entries_of b.pairs.now) b.index way t → ⊥) → NoDocument A B (said a)
+  pub none_in : ((way : List Listed) (t : Tree) → DocumentOf A B b.kind (entries_of b.pairs.now) b.index way t → ⊥) → NoDocument A B (view a)
   none_in none way t (k, phase, d) =
       let kinds : k ≡ b.kind = cc (phase, of.0) in
-      let kind = subst (λ (x : Kind). DocumentOf A B x (entries_of a.pairs) (broken_index (said a)) way t) kinds d in
+      let kind = subst (λ (x : Kind). DocumentOf A B x (entries_of a.pairs) (broken_index (view a)) way t) kinds d in
       let index = subst (λ (i : ℕ). DocumentOf A B b.kind (entries_of a.pairs) i way t) (sym of.2) kind in
       none way t (subst (λ (p : Pairs). DocumentOf A B b.kind (entries_of p) b.index way t) (sym of.1) index)
 
 -- with the area's counts the list of pairs is inside those of the schemas
-pub inside_of : {D : Type 0} (c : Compared D) (a : Area) (b : BrokenPair) → BrokenOf a (Some b) → other_counts (said a) (tables_of c.first.now) (tables_of c.second.now) ≡ None → Inside c b.pairs.now
+pub inside_of : {D : Type 0} (c : Compared D) (a : Area) (b : BrokenPair) → BrokenOf a (Some b) → other_counts (view a) (tables_of c.first.now) (tables_of c.second.now) ≡ None → Inside c b.pairs.now
 inside_of c a b of none =
-    let counts = counts_of (said a) (tables_of c.first.now) (tables_of c.second.now) none in
+    let counts = counts_of (view a) (tables_of c.first.now) (tables_of c.second.now) none in
     record { firsts = ap (λ (p : Pairs). p.firsts) of.1 ∙ counts.0; seconds = ap (λ (p : Pairs). p.seconds) of.1 ∙ counts.1 }
 
 -- what is answered of the area's document
-pub answered : (A B : Automaton) (a : Area) (d : Found A B (said a)) (o : List ℕ) (r : Result ℕ Refusal) (o' : List ℕ) → TreeAnswer d.tree o r o' → DocumentAnswer A B (said a) o r o'
+pub answered : (A B : Automaton) (a : Area) (d : Found A B (view a)) (o : List ℕ) (r : Result ℕ Refusal) (o' : List ℕ) → TreeAnswer d.tree o r o' → DocumentAnswer A B (view a) o r o'
 answered A B a d o (Ok n) o' so = (d, so)
 answered A B a d o (Err e) o' so = (inr (d, so.0), so.1)
 

@@ -19,7 +19,7 @@ use Rattle.compare.specs.declared.pairs.Listed.{Listed}
 use Rattle.compare.specs.declared.phase.Kind.{Kind}
 use Rattle.compare.specs.declared.phase.Kind.TheVariants.{Value, Content}
 use Rattle.compare.specs.Breaking.{Broken}
-use Rattle.compare.specs.Growing.{Path, Reached}
+use Rattle.compare.specs.Invariant.{StatePath, Reached}
 use Rattle.compare.specs.Pairs.{start}
 use Rattle.document.specs.Documents.{OnWay, LeadsTo, Built, HasDocument}
 use Rattle.document.specs.Forks.{joined}
@@ -208,11 +208,11 @@ module _ (A B : Automaton) where
       let same : long.1.0 ≡ path.1.0 = same_Some _ _ (sym long.1.1 ∙ path.1.1) in
       last_live w path.1.0 a r s path.1.2 (subst (λ (t : ℕ). LivePath A t (w ++ a ∷ []) s) same long.1.2)
 
-  last_step : (w : List ℕ) (p a r s : ℕ) → Path B p w r → Path B p (w ++ a ∷ []) s → B.next r a ≡ Some s
+  last_step : (w : List ℕ) (p a r s : ℕ) → StatePath B p w r → StatePath B p (w ++ a ∷ []) s → B.next r a ≡ Some s
   last_step [] p a r s path long = subst (λ (t : ℕ). B.next t a ≡ Some s) path (long.1 ∙ ap Some long.2)
   last_step (b ∷ w) p a r s path long =
       let same : long.0 ≡ path.0 = same_Some _ _ (sym long.1 ∙ path.1) in
-      last_step w path.0 a r s path.2 (subst (λ (t : ℕ). Path B t (w ++ a ∷ []) s) same long.2)
+      last_step w path.0 a r s path.2 (subst (λ (t : ℕ). StatePath B t (w ++ a ∷ []) s) same long.2)
 
   -- where every listed pair is reached, a way leads along its pairs
   module _ (es : List Listed) (starts : slice_get es 0 ≡ Some start) (reached : Reached A B es) where
@@ -225,7 +225,7 @@ module _ (A B : Automaton) where
         let v = word_parent pair_links es i e led r.0 r.1 in
         let long : r.0 ≡ s.0 ++ e.symbol ∷ [] = v.2 ∙ ap (λ (l : List ℕ). l ++ e.symbol ∷ []) (one_word pair_links es e.parent v.0 s.0 v.1 s.1) in
         let first = last_live s.0 0 e.symbol y.first e.first s.2 (subst (λ (l : List ℕ). LivePath A 0 l e.first) long r.2) in
-        (first.0, (first.1, last_step s.0 0 e.symbol y.second e.second s.3 (subst (λ (l : List ℕ). Path B 0 l e.second) long r.3)))
+        (first.0, (first.1, last_step s.0 0 e.symbol y.second e.second s.3 (subst (λ (l : List ℕ). StatePath B 0 l e.second) long r.3)))
 
     along_climb : (back : List Listed) (i : ℕ) (x : Listed) → slice_get es i ≡ Some x → PathBack pair_links es i back → Along 0 0 (reverse back) x.first x.second
     along_climb [] i x at first =

@@ -11,17 +11,17 @@ use Rattle.schema.specs.Automata.{Automaton}
 use Rattle.schema.specs.Faults.{either_fault}
 use Rattle.schema.specs.Tables.{automaton}
 use Rattle.compare.specs.Refusals.{other_symbols, held_kept_from}
-use Rattle.compare.specs.Strangers.{stranger}
-use Rattle.compare.specs.Work.{Work, said}
+use Rattle.compare.specs.NotHolder.{refusal_of_not_holder}
+use Rattle.compare.specs.View.{View, view}
 use Rattle.compare.specs.Writing.{write_kept_from}
-use Rattle.compare.proofs.Strangers.{found_within, found_third, some_found}
+use Rattle.compare.proofs.NotHolder.{found_within, found_third, some_found}
 use Rattle.compare.proofs.Tests.{held_refused}
 use Rattle.samples.specs.declared.size.TheConstants.{TOO_LONG}
 use Rattle.samples.specs.Kept.{needed}
 use Rattle.document.specs.Writing.{kept_from, early_refusal, Found, DocumentAnswer, OneDocumenting, DocumentOfStranger}
 use Rattle.document.proofs.Unique.{found_or_not, one_found}
 
-module _ (A B : Automaton) (w : Work) (output : List ℕ) where
+module _ (A B : Automaton) (w : View) (output : List ℕ) where
   -- a document that was written is none that is too long
   not_both : (n : ℕ) (d f : Found A B w) → n ≡ length (tree_bytes d.tree) → n < TOO_LONG → (n < length output + 1) → (length output < needed f.tree) ⊎ (needed f.tree ≡ TOO_LONG) → ⊥
   not_both n d f long few fits too =
@@ -63,18 +63,18 @@ one_documenting T U sets others claim slots levels a output r s one other p q =
     (λ answer.
     ⊎_elim
     (λ refused. absurd (none-some _ (sym answer.0 ∙ refused.1)))
-    (λ answer'. one_answer (automaton T sets) (automaton U others) (said a) output r s one other answer.1 answer'.1)
+    (λ answer'. one_answer (automaton T sets) (automaton U others) (view a) output r s one other answer.1 answer'.1)
     q)
     p
 
 pub document_of_stranger : DocumentOfStranger
 unfolding DocumentOfStranger
 document_of_stranger T U sets others claim slots levels a output r output' does other =
-    let w = said a in
-    let found = λ (p q : Option Refusal) (rest : List (Option Refusal)) (is : q ≡ first_of (p ∷ Some (stranger w claim) ∷ [])). found_within p q (stranger w claim) rest is in
-    let write : write_kept_from w T U claim slots ≡ first_of (other_symbols w T U ∷ Some (stranger w claim) ∷ []) = found (other_symbols w T U) (held_kept_from w T U claim) _ (held_refused w claim T U other) in
-    let same : early_refusal w T U claim slots levels ≡ first_of (either_fault T U ∷ other_symbols w T U ∷ Some (stranger w claim) ∷ []) = found_third (either_fault T U) (other_symbols w T U) (kept_from w T U claim slots levels) (stranger w claim) (found (other_symbols w T U) (write_kept_from w T U claim slots) _ write) in
+    let w = view a in
+    let found = λ (p q : Option Refusal) (rest : List (Option Refusal)) (is : q ≡ first_of (p ∷ Some (refusal_of_not_holder w claim) ∷ [])). found_within p q (refusal_of_not_holder w claim) rest is in
+    let write : write_kept_from w T U claim slots ≡ first_of (other_symbols w T U ∷ Some (refusal_of_not_holder w claim) ∷ []) = found (other_symbols w T U) (held_kept_from w T U claim) _ (held_refused w claim T U other) in
+    let same : early_refusal w T U claim slots levels ≡ first_of (either_fault T U ∷ other_symbols w T U ∷ Some (refusal_of_not_holder w claim) ∷ []) = found_third (either_fault T U) (other_symbols w T U) (kept_from w T U claim slots levels) (refusal_of_not_holder w claim) (found (other_symbols w T U) (write_kept_from w T U claim slots) _ write) in
     ⊎_elim
     (λ refused. (refused.0, refused.2, sym same ∙ refused.1, refused.3))
-    (λ answer. absurd (some_found (either_fault T U) (other_symbols w T U) (stranger w claim) (sym same ∙ answer.0)))
+    (λ answer. absurd (some_found (either_fault T U) (other_symbols w T U) (refusal_of_not_holder w claim) (sym same ∙ answer.0)))
     does

@@ -11,7 +11,7 @@ use Rattle.compare.specs.declared.phase.Kind.{Kind}
 use Rattle.compare.specs.declared.phase.Kind.TheVariants.{Value, Content}
 use Rattle.compare.specs.declared.phase.Phase.TheVariants as phase
 use Rattle.compare.specs.Trailing.{broken_index}
-use Rattle.compare.specs.Work.{Work}
+use Rattle.compare.specs.View.{View}
 use Rattle.document.specs.Documents.{AtEnd, OnWay, Built, GoesOn, DocumentOf, OneDocument}
 use Rattle.samples.specs.Samples.{LowerSequence, Sample, Samples}
 use Rattle.document.specs.Writing.{DocumentIn, Found, NoDocument}
@@ -67,7 +67,7 @@ one_document A B k es i v w t u d d' =
     let way : v ≡ w = one_path pair_links es i v w d.leads d'.leads in
     (way, one_built A B k 0 0 w t u (subst (λ (l : List Listed). Built A B k 0 0 l t) way d.built) d'.built)
 
-module _ (A B : Automaton) (w : Work) where
+module _ (A B : Automaton) (w : View) where
   -- an area's broken pair has one document
   pub one_document_in : (v u : List Listed) (t r : Tree) → DocumentIn A B w v t → DocumentIn A B w u r → (v ≡ u) × (t ≡ r)
   unfolding OneDocument

@@ -12,7 +12,7 @@ use Rattle.compare.specs.declared.pairs.Listed.{Listed}
 use Rattle.compare.specs.declared.phase.Kind.{Kind}
 use Rattle.compare.specs.declared.phase.Kind.TheVariants.{Value, Content}
 use Rattle.compare.specs.Breaking.{Broken}
-use Rattle.compare.specs.Growing.{Reached}
+use Rattle.compare.specs.Invariant.{Reached}
 use Rattle.compare.specs.Listing.{pair_links}
 use Rattle.compare.specs.Pairs.{start}
 use Rattle.samples.specs.Samples.{SampleSequence, Samples}

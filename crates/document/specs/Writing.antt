@@ -15,9 +15,9 @@ use Rattle.compare.specs.declared.pairs.Listed.{Listed}
 use Rattle.compare.specs.declared.phase.Kind.{Kind}
 use Rattle.compare.specs.declared.phase.Phase.TheVariants as phase
 use Rattle.compare.specs.Refusals.{other_symbols}
-use Rattle.compare.specs.Strangers.{is_holder, stranger}
+use Rattle.compare.specs.NotHolder.{is_holder, refusal_of_not_holder}
 use Rattle.compare.specs.Trailing.{broken_index}
-use Rattle.compare.specs.Work.{Work, said}
+use Rattle.compare.specs.View.{View, view}
 use Rattle.compare.specs.Writing.{write_kept_from}
 use Rattle.document.specs.Documents.{DocumentOf}
 use Rattle.document.specs.declared.document.TheConstants.{LEVELS}
@@ -29,24 +29,24 @@ abbrev pub short_levels : ℕ → Option Refusal
 short_levels levels = cond (nat_lt levels LEVELS) (Some (record { fault = Scratch; place = LEVELS })) None
 
 -- what keeps sound schemas from a document of the claim with these numbers, which lends so many row pairs and levels
-abbrev pub kept_from : Work → Tables → Tables → Numbers → ℕ → ℕ → Option Refusal
+abbrev pub kept_from : View → Tables → Tables → Numbers → ℕ → ℕ → Option Refusal
 kept_from w T U claim slots levels = first_of (write_kept_from w T U claim slots ∷ short_levels levels ∷ [])
 
 -- the refusal before any document is looked for, in the order of the tests
-abbrev pub early_refusal : Work → Tables → Tables → Numbers → ℕ → ℕ → Option Refusal
+abbrev pub early_refusal : View → Tables → Tables → Numbers → ℕ → ℕ → Option Refusal
 early_refusal w T U claim slots levels = first_of (either_fault T U ∷ kept_from w T U claim slots levels ∷ [])
 
 -- the tree is the document of the area's broken pair on two automata, along this way
-abbrev pub DocumentIn : Automaton → Automaton → Work → List Listed → Tree → Type 0
+abbrev pub DocumentIn : Automaton → Automaton → View → List Listed → Tree → Type 0
 DocumentIn A B w way t = (k : Kind) × (w.phase ≡ phase.Apart k) × DocumentOf A B k w.pairs (broken_index w) way t
 
 -- `schemas`: the automata have no document along the trail, since they do not lead along it through the listed pairs, or lack a value or a
 -- sequence that it needs
-abbrev pub NoDocument : Automaton → Automaton → Work → Type 0
+abbrev pub NoDocument : Automaton → Automaton → View → Type 0
 NoDocument A B w = (way : List Listed) (t : Tree) → DocumentIn A B w way t → ⊥
 
 -- there is a document
-pub record Found (A B : Automaton) (w : Work) : Type 0 where
+pub record Found (A B : Automaton) (w : View) : Type 0 where
   pub way : List Listed
   pub tree : Tree
   pub document : DocumentIn A B w way tree
@@ -67,7 +67,7 @@ TreeAnswer t output (Ok n) output' = TreeWritten t output n output'
 TreeAnswer t output (Err e) output' = TreeTooLong t output e × (output' ≡ output)
 
 -- what is answered where nothing is refused before: what is answered of the document; or `schemas`, and the output as found
-abbrev pub DocumentAnswer : Automaton → Automaton → Work → List ℕ → Result ℕ Refusal → List ℕ → Type 0
+abbrev pub DocumentAnswer : Automaton → Automaton → View → List ℕ → Result ℕ Refusal → List ℕ → Type 0
 DocumentAnswer A B w output (Ok n) output' = (d : Found A B w) × TreeWritten d.tree output n output'
 DocumentAnswer A B w output (Err e) output' =
     ((NoDocument A B w × (e ≡ record { fault = Schemas; place = w.serial }))
@@ -77,9 +77,9 @@ DocumentAnswer A B w output (Err e) output' =
 -- the one outcome: the first refusal, which leaves the output as found, or what is answered of the document
 abbrev pub Documenting : Tables → Tables → List (ℕ → Bool) → List (ℕ → Bool) → Numbers → ℕ → ℕ → Area → List ℕ → Result ℕ Refusal → List ℕ → Type 0
 Documenting T U sets others claim slots levels a output r output' =
-    ((e : Refusal) × (early_refusal (said a) T U claim slots levels ≡ Some e) × (r ≡ Err e) × (output' ≡ output))
-    ⊎ ((early_refusal (said a) T U claim slots levels ≡ None)
-    × DocumentAnswer (automaton T sets) (automaton U others) (said a) output r output')
+    ((e : Refusal) × (early_refusal (view a) T U claim slots levels ≡ Some e) × (r ≡ Err e) × (output' ≡ output))
+    ⊎ ((early_refusal (view a) T U claim slots levels ≡ None)
+    × DocumentAnswer (automaton T sets) (automaton U others) (view a) output r output')
 
 -- the call has one answer, and leaves one output
 unfoldable pub OneDocumenting : Type 0
@@ -96,7 +96,7 @@ unfoldable pub DocumentOfStranger : Type 0
 DocumentOfStranger =
     (T U : Tables) (sets others : List (ℕ → Bool)) (claim : Numbers) (slots levels : ℕ) (a : Area) (output : List ℕ)
     (r : Result ℕ Refusal) (output' : List ℕ)
-    → Documenting T U sets others claim slots levels a output r output' → is_holder (said a) claim ≡ false
+    → Documenting T U sets others claim slots levels a output r output' → is_holder (view a) claim ≡ false
     → (e : Refusal) × (r ≡ Err e)
-    × (first_of (either_fault T U ∷ other_symbols (said a) T U ∷ Some (stranger (said a) claim) ∷ []) ≡ Some e)
+    × (first_of (either_fault T U ∷ other_symbols (view a) T U ∷ Some (refusal_of_not_holder (view a) claim) ∷ []) ≡ Some e)
     × (output' ≡ output)

@@ -6,7 +6,7 @@ ghost use Rattle.schema.specs.Meaning.{meaning, tables_of};
 ghost use Rattle.schema.specs.Tables.{tables, sets};
 ghost use Rattle.compare.specs.Listing.{entries_of};
 ghost use Rattle.compare.specs.Refusals.{other_counts};
-ghost use Rattle.compare.specs.Work.{said};
+ghost use Rattle.compare.specs.View.{view};
 ghost use Rattle.document.specs.declared.document.TheConstants.{LEVELS};
 ghost use Rattle.document.specs.Laws.{DocumentLaws, DocumentLimits};
 ghost use Rattle.document.specs.Nodes.{Ready};
@@ -46,7 +46,7 @@ fn permits<'a, D>(
     levels: usize,
 ) -> Result<RowSlots<'a>, Refusal>
     ensures { Refuses
-        (kept_from (said area.now) (tables_of first.now) (tables_of second.now) claim (length scratch.old) levels)
+        (kept_from (view area.now) (tables_of first.now) (tables_of second.now) claim (length scratch.old) levels)
         result }
 {
     let slots = permits_write(area, first, second, claim, scratch)?;
@@ -91,9 +91,9 @@ fn write_document<D: Domain>(
     levels: &mut [Level<NodeKey>],
     bytes: &mut [u8],
 ) -> Result<usize, Refusal>
-    ensures { other_counts (said area.now) (tables_of first.now) (tables_of second.now) ≡ None →
+    ensures { other_counts (view area.now) (tables_of first.now) (tables_of second.now) ≡ None →
         LEVELS ≤ length levels.old →
-        DocumentAnswer (meaning D.Domain.holds first.now) (meaning D.Domain.holds second.now) (said area.now)
+        DocumentAnswer (meaning D.Domain.holds first.now) (meaning D.Domain.holds second.now) (view area.now)
         bytes.old result bytes.new }
 {
     let none = refusal(area, Fault::Schemas);

@@ -15,23 +15,23 @@ use Rattle.compare.specs.declared.event.Event.TheVariants.{Take, Oust, Step, Con
 use Rattle.compare.specs.declared.phase.Kind.{Kind}
 use Rattle.compare.specs.declared.phase.Phase.{Phase}
 use Rattle.compare.specs.declared.phase.Phase.TheVariants as phase
-use Rattle.compare.specs.Beginning.{Beginning, kept_from, begin_refusal}
+use Rattle.compare.specs.Beginning.{Beginning, begin_kept_from, begin_refusal}
 use Rattle.compare.specs.Concluding.{claim_refusal, Conclusion, GivesUp}
 use Rattle.compare.specs.Phases.{decided}
 use Rattle.compare.specs.Refusals.{by_phase, of_another, not_held, other_symbols, phase_refuses}
 use Rattle.compare.specs.Stepping.{Stepping, step_kept_from, step_refusal}
-use Rattle.compare.specs.Work.{Work, said, free, is_free, held_by}
+use Rattle.compare.specs.View.{View, view, free, is_free, held_by}
 use Rattle.compare.proofs.Allowing.{fails}
 use Rattle.history.specs.Calls.{Handed, Call, take_up, oust, step, conclude, trail, document, give_up, give_up_apart, Does, are, is_made_with, is_inclusion, is_giving_up, granted_by, Starts, Comparison}
 use Rattle.history.specs.Law.{is_ousting}
 
 -- the claim with these numbers is the holder
-pub record Holder (w : Work) (m : Numbers) : Type 0 where
+pub record Holder (w : View) (m : Numbers) : Type 0 where
   pub area : m.area ≡ w.number
   pub serial : m.serial ≡ w.serial
   pub busy : is_free w.phase ≡ false
 
-module _ (w : Work) (m : Numbers) where
+module _ (w : View) (m : Numbers) where
   pub holder : of_another w m.area ≡ None → held_by w m.serial ≡ true → Holder w m
   holder near held =
       let parts = and_parts _ (eqb m.serial w.serial) held in
@@ -51,11 +51,11 @@ module _ (w : Work) (m : Numbers) where
       (first_none (claim_refusal w m Step) _ (first_none (other_symbols w T U) _ kept).1).0
 
 -- take begins on a free area alone
-pub taken_free : (w : Work) (T U : Tables) → begin_refusal w T U Take ≡ None → is_free w.phase ≡ true
+pub taken_free : (w : View) (T U : Tables) → begin_refusal w T U Take ≡ None → is_free w.phase ≡ true
 taken_free w T U none = by w.phase asked
   where
-    kept : kept_from w T U Take ≡ None
-    kept = (first_none (kept_from w T U Take) [] (first_none (either_fault T U) _ none).1).0
+    kept : begin_kept_from w T U Take ≡ None
+    kept = (first_none (begin_kept_from w T U Take) [] (first_none (either_fault T U) _ none).1).0
 
     asked : phase_refuses w Take ≡ None
     asked = (first_none (phase_refuses w Take) _ (first_none (other_symbols w T U) _ kept).1).0
@@ -73,24 +73,24 @@ pub data Effect (d : Call) (a a' : Area) : Type 0 where
   begins : (h : Handed) (claim : Lease Comparing) (e : Event) → Beginning e h.first h.second h.first_sets a (Ok claim) a' → ((n : Numbers) → is_made_with n d ≡ false) → (is_ousting d ≡ true) ⊎ (is_free a.phase ≡ true) → Effect d a a'
   steps : (m : Numbers) (h : Handed) (n slots : ℕ) (answer : ℕ × ℕ) → d ≡ step m h n slots (Ok answer) → Stepping h.first h.second h.first_sets h.second_sets m n slots a (Ok answer) a' → Effect d a a'
   parts : (c : Lease Comparing) (k : Kind) (n : ℕ) (claim : Lease Apart) → d ≡ conclude c (Ok (concluded.Apart k n claim)) → Conclusion a c (Ok (concluded.Apart k n claim)) a' → Effect d a a'
-  ends : (m : Numbers) → Holder (said a) m → ((n : Numbers) → is_made_with n d ≡ are n m) → (is_inclusion d ≡ true) ⊎ (is_giving_up d ≡ true) → said a' ≡ free a.number a.serial → Effect d a a'
+  ends : (m : Numbers) → Holder (view a) m → ((n : Numbers) → is_made_with n d ≡ are n m) → (is_inclusion d ≡ true) ⊎ (is_giving_up d ≡ true) → view a' ≡ free a.number a.serial → Effect d a a'
 
 -- what giving up does
-given_up : {S : Type 0} (d : Call) (a a' : Area) (c : Lease S) (n : ℕ) → ((m : Numbers) → is_made_with m d ≡ are m c.numbers) → is_giving_up d ≡ true → ((m : Numbers) → granted_by m d ≡ 0) → of_another (said a) c.numbers.area ≡ None → GivesUp a c.numbers.serial n a' → Effect d a a'
-given_up d a a' c n made gives none near up = by (held_by (said a) c.numbers.serial) refl up
+given_up : {S : Type 0} (d : Call) (a a' : Area) (c : Lease S) (n : ℕ) → ((m : Numbers) → is_made_with m d ≡ are m c.numbers) → is_giving_up d ≡ true → ((m : Numbers) → granted_by m d ≡ 0) → of_another (view a) c.numbers.area ≡ None → GivesUp a c.numbers.serial n a' → Effect d a a'
+given_up d a a' c n made gives none near up = by (held_by (view a) c.numbers.serial) refl up
   where
-    by : (b : Bool) → held_by (said a) c.numbers.serial ≡ b → cond b ((n ≡ 1) × (said a' ≡ free a.number a.serial)) ((n ≡ 0) × (a' ≡ a)) → Effect d a a'
-    by true held up = ends c.numbers (holder (said a) c.numbers near held) made (inr gives) up.1
+    by : (b : Bool) → held_by (view a) c.numbers.serial ≡ b → cond b ((n ≡ 1) × (view a' ≡ free a.number a.serial)) ((n ≡ 0) × (a' ≡ a)) → Effect d a a'
+    by true held up = ends c.numbers (holder (view a) c.numbers near held) made (inr gives) up.1
     by false held up = keeps up.1 none
 
 pub effect : (d : Call) (a a' : Area) → Does d a a' → Effect d a a'
-effect (take_up h (Ok c)) a a' does = begins h c Take does (λ n. refl) (inr (taken_free (said a) h.first h.second does.0))
+effect (take_up h (Ok c)) a a' does = begins h c Take does (λ n. refl) (inr (taken_free (view a) h.first h.second does.0))
 effect (take_up h (Err e)) a a' does = keeps does.1 (λ n. refl)
 effect (oust h (Ok c)) a a' does = begins h c Oust does (λ n. refl) (inl refl)
 effect (oust h (Err e)) a a' does = keeps does.1 (λ n. refl)
 effect (step m h n slots (Ok answer)) a a' does = steps m h n slots answer refl does
 effect (step m h n slots (Err e)) a a' does = keeps does.1 (λ n. refl)
-effect (conclude c (Ok (concluded.Included n))) a a' does = ends c.numbers (permitted (said a) c.numbers Conclude does.0).0 (λ n. refl) (inl refl) does.1.2
+effect (conclude c (Ok (concluded.Included n))) a a' does = ends c.numbers (permitted (view a) c.numbers Conclude does.0).0 (λ n. refl) (inl refl) does.1.2
 effect (conclude c (Ok (concluded.Apart k n claim))) a a' does = parts c k n claim refl does
 effect (conclude c (Err e)) a a' does = keeps does.2 (λ n. refl)
 effect (trail c o r o') a a' does = keeps does.1 (λ n. refl)

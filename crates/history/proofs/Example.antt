@@ -18,8 +18,8 @@ use Rattle.compare.specs.Beginning.{begin_refusal, Begins}
 use Rattle.compare.specs.Breaking.{Broken}
 use Rattle.compare.specs.Stepping.{Examines, Stepped, is_running}
 use Rattle.schema.specs.Automata.{Automaton}
-use Rattle.compare.specs.Work.{Work, said, start, free}
-use Rattle.compare.proofs.Keeping.{kept_from}
+use Rattle.compare.specs.View.{View, view, start, free}
+use Rattle.compare.proofs.Keeping.{kept_pairs_from}
 use Rattle.history.specs.Calls.{take_up, Does, Runs}
 use Rattle.history.specs.Example.{pair_of, claim, example, ExampleRuns}
 use Rattle.history.specs.Marked.{zero_alone, U, V, over_zero}
@@ -71,7 +71,7 @@ kept_one =
 
 -- the list with the pair (0, 0), for two schemas of one state each
 abbrev one_pair : Pairs
-one_pair = record { firsts = 1; seconds = 1; entries = slots; length = 1; bits = bits; sound = kept_from 1 1 slots 1 bits kept_one }
+one_pair = record { firsts = 1; seconds = 1; entries = slots; length = 1; bits = bits; sound = kept_pairs_from 1 1 slots 1 bits kept_one }
 
 -- the area with that list
 abbrev listing : ℕ → Phase → ℕ → Area
@@ -82,35 +82,35 @@ abbrev refused : Broken (over_zero V) (over_zero U) Content 0 0
 refused = (0 ∷ [], one_child, refl)
 
 -- one turn of a running area with that list
-one_turn : (A B : Automaton) (serial : ℕ) (p : Phase) → Examines A B (said (listing serial phase.Running 0)) (said (listing serial p 1)) → (p ≡ phase.Running → ⊥) → (n : ℕ) → Stepped A B (suc n) (said (listing serial phase.Running 0)) (said (listing serial p 1))
+one_turn : (A B : Automaton) (serial : ℕ) (p : Phase) → Examines A B (view (listing serial phase.Running 0)) (view (listing serial p 1)) → (p ≡ phase.Running → ⊥) → (n : ℕ) → Stepped A B (suc n) (view (listing serial phase.Running 0)) (view (listing serial p 1))
 one_turn A B serial p examines stands n =
     record {
       taken = 1;
       few = omega arith;
-      turns = (said (listing serial phase.Running 0), refl, refl, inr examines);
+      turns = (view (listing serial phase.Running 0), refl, refl, inr examines);
       until = λ runs. absurd (stands runs);
     }
 
 -- the area that is free again, with the list that it had as it was made
-module _ (a : Area) (made : said a ≡ free 7 0) where
+module _ (a : Area) (made : view a ≡ free 7 0) where
   abbrev free_again : ℕ → Area
   free_again serial = record { number = 7; serial = serial; phase = phase.Free; symbols = 0; pairs = a.pairs; examined = 0 }
 
-  said_free : (serial : ℕ) → said (free_again serial) ≡ free 7 serial
-  said_free serial = ap (λ (w : Work). record { number = 7; serial = serial; phase = phase.Free; symbols = 0; firsts = w.firsts; seconds = w.seconds; pairs = w.pairs; examined = 0 }) made
+  said_free : (serial : ℕ) → view (free_again serial) ≡ free 7 serial
+  said_free serial = ap (λ (w : View). record { number = 7; serial = serial; phase = phase.Free; symbols = 0; firsts = w.firsts; seconds = w.seconds; pairs = w.pairs; examined = 0 }) made
 
   -- a comparison of U and V begins on a free area
-  begins : (x : Area) (serial : ℕ) → said x ≡ free 7 serial → begin_refusal (free 7 serial) U V Take ≡ None → Does (take_up (pair_of U V) (Ok (claim (serial + 1)))) x (listing (serial + 1) phase.Running 0)
+  begins : (x : Area) (serial : ℕ) → view x ≡ free 7 serial → begin_refusal (free 7 serial) U V Take ≡ None → Does (take_up (pair_of U V) (Ok (claim (serial + 1)))) x (listing (serial + 1) phase.Running 0)
   begins x serial is may =
-      subst (λ (w : Work). (begin_refusal w U V Take ≡ None) × Begins U V zero_alone w (claim (serial + 1)) (said (listing (serial + 1) phase.Running 0))) (sym is)
+      subst (λ (w : View). (begin_refusal w U V Take ≡ None) × Begins U V zero_alone w (claim (serial + 1)) (view (listing (serial + 1) phase.Running 0))) (sym is)
       (may, record { live = true; decides = (λ yes. alone_U, λ alive. refl); after = refl; number = refl; serial = refl })
 
   -- U and V have one unbroken pair
-  u_v_examined : Examines (over_zero U) (over_zero V) (said (listing 3 phase.Running 0)) (said (listing 3 (phase.Ready verdict.Included) 1))
+  u_v_examined : Examines (over_zero U) (over_zero V) (view (listing 3 phase.Running 0)) (view (listing 3 (phase.Ready verdict.Included) 1))
   u_v_examined = record { pair = start; at = refl; outcome = inr (u_v_unbroken, ((λ a. false), dead_symbols, refl)) }
 
   -- V and U have one pair, which is broken
-  v_u_examined : Examines (over_zero V) (over_zero U) (said (listing 2 phase.Running 0)) (said (listing 2 (phase.Ready (verdict.Apart Content)) 1))
+  v_u_examined : Examines (over_zero V) (over_zero U) (view (listing 2 phase.Running 0)) (view (listing 2 (phase.Ready (verdict.Apart Content)) 1))
   v_u_examined = record { pair = start; at = refl; outcome = inl (Content, refused, refl) }
 
   runs : Runs example a (free_again 3)

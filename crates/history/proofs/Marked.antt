@@ -29,7 +29,7 @@ use Rattle.compare.specs.declared.phase.Verdict.{Verdict}
 use Rattle.compare.specs.declared.phase.Verdict.TheVariants.{Included, Apart}
 use Rattle.compare.specs.Breaking.{Broken, Unbroken}
 use Rattle.compare.specs.Stepping.{next_pair, with_found, with_nexts, examined_to, going_on, Turn, Turns, Stepped, Examines, is_running}
-use Rattle.compare.specs.Work.{Work, start, begun}
+use Rattle.compare.specs.View.{View, start, begun}
 use Rattle.samples.specs.Samples.{LowerSequence, Sample}
 use Rattle.history.specs.Marked.{zero_alone, U, V, W, over_zero, ComesTo, HasDocument, letters, just_letters, from_to, MarkedCases}
 
@@ -115,26 +115,26 @@ u_w_document = (
 not_ready : (p : Phase) (v : Verdict) → p ≡ Ready v → p ≡ Running → ⊥
 not_ready p v ready runs = false≢true (sym (ap is_running ready) ∙ ap is_running runs)
 
-module _ (A B : Automaton) (w : Work) where
+module _ (A B : Automaton) (w : View) where
   -- an area with its verdict takes no turn
-  stays : (v : Verdict) → w.phase ≡ Ready v → (n : ℕ) (w' : Work) → Turns A B n w w' → w' ≡ w
+  stays : (v : Verdict) → w.phase ≡ Ready v → (n : ℕ) (w' : View) → Turns A B n w w' → w' ≡ w
   stays v ready zero w' t = t
   stays v ready (suc n) w' t =
       let before = stays v ready n t.0 t.1 in
-      absurd (not_ready w.phase v ready (subst (λ (x : Work). x.phase ≡ Running) before t.2))
+      absurd (not_ready w.phase v ready (subst (λ (x : View). x.phase ≡ Running) before t.2))
 
-  module _ (v : Verdict) (count : ℕ) (turn : (x : Work) → Turn A B w x → (x.phase ≡ Ready v) × (x.examined ≡ count)) where
+  module _ (v : Verdict) (count : ℕ) (turn : (x : View) → Turn A B w x → (x.phase ≡ Ready v) × (x.examined ≡ count)) where
     -- a running area whose first turn brings the verdict takes no more than that
-    once : (n : ℕ) (w' : Work) → Turns A B (suc n) w w' → (w'.phase ≡ Ready v) × (w'.examined ≡ count)
-    once zero w' t = turn w' (subst (λ (x : Work). Turn A B x w') t.1 t.3)
+    once : (n : ℕ) (w' : View) → Turns A B (suc n) w w' → (w'.phase ≡ Ready v) × (w'.examined ≡ count)
+    once zero w' t = turn w' (subst (λ (x : View). Turn A B x w') t.1 t.3)
     once (suc n) w' t = let before = once n t.0 t.1 in absurd (not_ready t.0.phase v before.0 t.2)
 
     -- and a step that may take one takes it
-    pub settles : (n : ℕ) (w' : Work) → w.phase ≡ Running → Stepped A B (suc n) w w' → (w'.phase ≡ Ready v) × (w'.examined ≡ count)
+    pub settles : (n : ℕ) (w' : View) → w.phase ≡ Running → Stepped A B (suc n) w w' → (w'.phase ≡ Ready v) × (w'.examined ≡ count)
     settles n w' runs s = by s.taken s.turns s.until
       where
         by : (k : ℕ) → Turns A B k w w' → (w'.phase ≡ Running → k ≡ suc n) → (w'.phase ≡ Ready v) × (w'.examined ≡ count)
-        by zero t until = absurd (omega (arith, until (ap {B = Phase} (λ (x : Work). x.phase) t ∙ runs)))
+        by zero t until = absurd (omega (arith, until (ap {B = Phase} (λ (x : View). x.phase) t ∙ runs)))
         by (suc k) t until = once k w' t
 
 -- the pair at the front of a list of one
@@ -142,18 +142,18 @@ front : (pair : Listed) → slice_get (start ∷ []) 0 ≡ Some pair → start �
 front pair at = same_Some _ _ at
 
 -- what a comparison of two of the schemas has begun with, where the first is live
-module _ (S T : Tables) (w : Work) where
+module _ (S T : Tables) (w : View) where
   abbrev A : Automaton
   A = over_zero S
 
   abbrev B : Automaton
   B = over_zero T
 
-  abbrev first_work : Work
+  abbrev first_work : View
   first_work = begun w S T true
 
   -- the first turn of a comparison whose pair (0, 0) is broken in content and not in value
-  breaks : Broken A B Content 0 0 → (Broken A B Value 0 0 → ⊥) → (x : Work) → Turn A B first_work x → (x.phase ≡ Ready (Apart Content)) × (x.examined ≡ 1)
+  breaks : Broken A B Content 0 0 → (Broken A B Value 0 0 → ⊥) → (x : View) → Turn A B first_work x → (x.phase ≡ Ready (Apart Content)) × (x.examined ≡ 1)
   breaks broken not_in_value x turn =
       ⊎_elim
       (λ none. absurd (none-some _ (sym none.0)))
@@ -167,7 +167,7 @@ module _ (S T : Tables) (w : Work) where
     where
       by : (k : Kind) → Broken A B k 0 0 → x ≡ record { number = w.number; serial = w.serial + 1; phase = Ready (Apart k); symbols = S.symbols; firsts = S.states; seconds = T.states; pairs = start ∷ []; examined = 1 } → (x.phase ≡ Ready (Apart Content)) × (x.examined ≡ 1)
       by Value b is = absurd (not_in_value b)
-      by Content b is = (ap {B = Phase} (λ (y : Work). y.phase) is, ap {B = ℕ} (λ (y : Work). y.examined) is)
+      by Content b is = (ap {B = Phase} (λ (y : View). y.phase) is, ap {B = ℕ} (λ (y : View). y.examined) is)
 
   -- a state that leads nowhere lists no pair
   module _ (leads : (a : ℕ) → A.next 0 a ≡ None) (live : ℕ → Bool) (es : List Listed) where
@@ -182,7 +182,7 @@ module _ (S T : Tables) (w : Work) where
         ∙ ap (λ o. with_found o (with_nexts A B live 0 0 0 a es)) (none_next a (live a) (B.next 0 a)) ∙ lists_none a
 
   -- the first turn of a comparison whose pair (0, 0) is unbroken, with a first state that leads nowhere
-  closes : Unbroken A B 0 0 → ((a : ℕ) → A.next 0 a ≡ None) → (x : Work) → Turn A B first_work x → (x.phase ≡ Ready Included) × (x.examined ≡ 1)
+  closes : Unbroken A B 0 0 → ((a : ℕ) → A.next 0 a ≡ None) → (x : View) → Turn A B first_work x → (x.phase ≡ Ready Included) × (x.examined ≡ 1)
   closes unbroken leads x turn =
       ⊎_elim
       (λ none. absurd (none-some _ (sym none.0)))
@@ -201,7 +201,7 @@ module _ (S T : Tables) (w : Work) where
       by : (live : ℕ → Bool) (pair : Listed) → start ≡ pair → x ≡ examined_to first_work (with_nexts A B live pair.first pair.second 0 S.symbols (start ∷ [])) (going_on 1 (with_nexts A B live pair.first pair.second 0 S.symbols (start ∷ []))) → (x.phase ≡ Ready Included) × (x.examined ≡ 1)
       by live pair same is =
           let listed : with_nexts A B live pair.first pair.second 0 S.symbols (start ∷ []) ≡ start ∷ [] = sym (ap (λ (y : Listed). with_nexts A B live y.first y.second 0 S.symbols (start ∷ [])) same) ∙ lists_none leads live (start ∷ []) S.symbols in
-          (ap {B = Phase} (λ (y : Work). y.phase) is ∙ ap (going_on 1) listed, ap {B = ℕ} (λ (y : Work). y.examined) is)
+          (ap {B = Phase} (λ (y : View). y.phase) is ∙ ap (going_on 1) listed, ap {B = ℕ} (λ (y : View). y.examined) is)
 
 -- U's state and V's have the same value, and V allows the empty sequence
 pub u_v_unbroken : Unbroken (over_zero U) (over_zero V) 0 0
@@ -216,7 +216,7 @@ pub dead_symbols : (a : ℕ) → Decides false (LiveSymbol (over_zero U) 0 a)
 dead_symbols a = (λ no. absurd (false≢true no), λ live. absurd (none-some _ (sym (nowhere a) ∙ (live_leads (over_zero U) 0 a live).1)))
 
 -- what comes of a comparison whose first schema is live, from what its first turn brings, where it may take one
-settled : (S T : Tables) (v : Verdict) (count : ℕ) → Live (over_zero S) 0 → ((w : Work) → (x : Work) × Turn (over_zero S) (over_zero T) (begun w S T true) x) → ((w x : Work) → Turn (over_zero S) (over_zero T) (begun w S T true) x → (x.phase ≡ Ready v) × (x.examined ≡ count)) → ComesTo S T v count
+settled : (S T : Tables) (v : Verdict) (count : ℕ) → Live (over_zero S) 0 → ((w : View) → (x : View) × Turn (over_zero S) (over_zero T) (begun w S T true) x) → ((w x : View) → Turn (over_zero S) (over_zero T) (begun w S T true) x → (x.phase ≡ Ready v) × (x.examined ≡ count)) → ComesTo S T v count
 settled S T v count alive some turn w true d =
     let x = some w in (
       (x.0, record { taken = 1; few = omega arith; turns = (begun w S T true, refl, refl, x.1); until = λ runs. absurd (not_ready x.0.phase v (turn w x.0 x.1).0 runs) }),
@@ -225,11 +225,11 @@ settled S T v count alive some turn w true d =
 settled S T v count alive some turn w false d = absurd (false≢true (d.1 alive))
 
 -- a turn that finds (0, 0) broken in content
-turn_breaks : (S T : Tables) → Broken (over_zero S) (over_zero T) Content 0 0 → (w : Work) → (x : Work) × Turn (over_zero S) (over_zero T) (begun w S T true) x
+turn_breaks : (S T : Tables) → Broken (over_zero S) (over_zero T) Content 0 0 → (w : View) → (x : View) × Turn (over_zero S) (over_zero T) (begun w S T true) x
 turn_breaks S T broken w = (examined_to (begun w S T true) (start ∷ []) (Ready (Apart Content)), inr (record { pair = start; at = refl; outcome = inl (Content, broken, refl) }))
 
 -- and one that finds it unbroken, of U against V
-turn_closes : (w : Work) → (x : Work) × Turn (over_zero U) (over_zero V) (begun w U V true) x
+turn_closes : (w : View) → (x : View) × Turn (over_zero U) (over_zero V) (begun w U V true) x
 turn_closes w =
     let es = with_nexts (over_zero U) (over_zero V) (λ a. false) 0 0 0 2 (start ∷ []) in
     (examined_to (begun w U V true) es (going_on 1 es), inr (record { pair = start; at = refl; outcome = inr (u_v_unbroken, ((λ a. false), dead_symbols, refl)) }))
@@ -253,7 +253,7 @@ w_u w false d = (
   (begun w W U false, record { taken = 0; few = omega arith; turns = refl; until = λ runs. absurd (not_ready (Ready Included) Included refl runs) }),
   λ w' s.
       let same = stays (over_zero W) (over_zero U) (begun w W U false) Included refl s.taken w' s.turns in
-      (ap {B = Phase} (λ (y : Work). y.phase) same, ap {B = ℕ} (λ (y : Work). y.examined) same),
+      (ap {B = Phase} (λ (y : View). y.phase) same, ap {B = ℕ} (λ (y : View). y.examined) same),
 )
 
 -- the gap of two joint domains with nothing on the left: that of the letters, on the right

@@ -12,7 +12,7 @@ use Rattle.compare.specs.declared.conclude.Concluded.TheVariants as concluded
 use Rattle.compare.specs.declared.event.Event.TheVariants.{Step, Conclude}
 use Rattle.compare.specs.Concluding.{Conclusion}
 use Rattle.compare.specs.Stepping.{Turn, Turns, Stepping}
-use Rattle.compare.specs.Work.{Work, said}
+use Rattle.compare.specs.View.{View, view}
 use Rattle.history.specs.Calls.{Handed, Call, take_up, oust, step, conclude, trail, document, give_up, give_up_apart, Does, Runs, are, Comparison}
 use Rattle.history.specs.Law.{told_by, told, count_of}
 use Rattle.history.proofs.Effects.{permitted, steps_permitted, Effect, keeps, begins, steps, parts, ends, effect, started_so}
@@ -21,41 +21,41 @@ use Rattle.history.proofs.Verdicts.{these}
 
 module _ (A B : Automaton) where
   -- a turn examines one pair, or none
-  turn_more : (w w' : Work) → Turn A B w w' → w.examined ≤ w'.examined
+  turn_more : (w w' : View) → Turn A B w w' → w.examined ≤ w'.examined
   turn_more w w' turn =
       ⊎_elim
-      (λ none. omega (arith, ap (λ (x : Work). x.examined) none.1))
-      (λ one. ⊎_elim (λ broken. omega (arith, ap (λ (x : Work). x.examined) broken.2)) (λ on. omega (arith, ap (λ (x : Work). x.examined) on.1.2)) one.outcome)
+      (λ none. omega (arith, ap (λ (x : View). x.examined) none.1))
+      (λ one. ⊎_elim (λ broken. omega (arith, ap (λ (x : View). x.examined) broken.2)) (λ on. omega (arith, ap (λ (x : View). x.examined) on.1.2)) one.outcome)
       turn
 
-  turns_more : (k : ℕ) (w w' : Work) → Turns A B k w w' → w.examined ≤ w'.examined
-  turns_more zero w w' turns = omega (arith, ap (λ (x : Work). x.examined) turns)
+  turns_more : (k : ℕ) (w w' : View) → Turns A B k w w' → w.examined ≤ w'.examined
+  turns_more zero w w' turns = omega (arith, ap (λ (x : View). x.examined) turns)
   turns_more (suc k) w w' turns = omega (arith, turns_more k w turns.0 turns.1, turn_more turns.0 w' turns.3)
 
 module _ (n : Numbers) where
   -- it holds the area, with so many pairs examined; or it has ended
   abbrev Tally : ℕ → Area → Type 0
-  Tally e a = (Held n (said a) × (a.examined ≡ e)) ⊎ Gone n (said a)
+  Tally e a = (Held n (view a) × (a.examined ≡ e)) ⊎ Gone n (view a)
 
-  module _ (d : Call) (a a' : Area) (e : ℕ) (held : Held n (said a)) (so : a.examined ≡ e) where
+  module _ (d : Call) (a a' : Area) (e : ℕ) (held : Held n (view a)) (so : a.examined ≡ e) where
     -- a step of its own examines as many as it tells
     step_tallied : (m : Numbers) (h : Handed) (k slots : ℕ) (answer : ℕ × ℕ) → d ≡ step m h k slots (Ok answer) → Stepping h.first h.second h.first_sets h.second_sets m k slots a (Ok answer) a' → Tally (e + told_by n d) a'
     step_tallied m h k slots answer is stepping =
-        let its : are n m ≡ true = holders n (said a) m held (permitted (said a) m Step (steps_permitted (said a) m h.first h.second k slots stepping.0)).0 in
+        let its : are n m ≡ true = holders n (view a) m held (permitted (view a) m Step (steps_permitted (view a) m h.first h.second k slots stepping.0)).0 in
         let tells : told_by n d ≡ answer.0 = ap (told_by n) is ∙ cond-true (are n m) answer.0 0 its in
         let s = stepping.1 in
-        let more = turns_more (automaton h.first h.first_sets) (automaton h.second h.second_sets) s.stepped.taken (said a) (said a') s.stepped.turns in
+        let more = turns_more (automaton h.first h.first_sets) (automaton h.second h.second_sets) s.stepped.taken (view a) (view a') s.stepped.turns in
         inl (held_steps n a a' m h k slots answer stepping held, omega (arith, so, tells, s.count, more))
 
     -- and no other call examines any
     other_tallied : told_by n d ≡ 0 → Effect d a a' → Tally (e + told_by n d) a'
-    other_tallied none (keeps left ungranted) = inl (subst (λ (x : Area). Held n (said x)) (sym left) held, omega (arith, none, so, ap (λ (x : Area). x.examined) left))
+    other_tallied none (keeps left ungranted) = inl (subst (λ (x : Area). Held n (view x)) (sym left) held, omega (arith, none, so, ap (λ (x : Area). x.examined) left))
     other_tallied none (begins h claim event begun made how) = inr (begun_ends n a a' event h claim begun held)
     other_tallied none (steps m h k slots answer is stepping) = step_tallied m h k slots answer is stepping
-    other_tallied none (parts c k count claim is concluding) = inl (held_parts n a a' c k count claim concluding held, omega (arith, none, so, ap (λ (x : Work). x.examined) concluding.1.4))
+    other_tallied none (parts c k count claim is concluding) = inl (held_parts n a a' c k count claim concluding held, omega (arith, none, so, ap (λ (x : View). x.examined) concluding.1.4))
     other_tallied none (ends m h made which freed) = inr (end_ends n a a' freed held)
 
-  tallied : (d : Call) (a a' : Area) (e : ℕ) → Does d a a' → Held n (said a) → a.examined ≡ e → Tally (e + told_by n d) a'
+  tallied : (d : Call) (a a' : Area) (e : ℕ) → Does d a a' → Held n (view a) → a.examined ≡ e → Tally (e + told_by n d) a'
   tallied (take_up h r) a a' e does held so = other_tallied (take_up h r) a a' e held so refl (effect (take_up h r) a a' does)
   tallied (oust h r) a a' e does held so = other_tallied (oust h r) a a' e held so refl (effect (oust h r) a a' does)
   tallied (step m h k slots (Ok answer)) a a' e does held so = step_tallied (step m h k slots (Ok answer)) a a' e held so m h k slots answer refl does
@@ -84,8 +84,8 @@ tells_examined a a' claim (concluded.Apart k n apart) does = does.1.1
 pub counted : (a : Area) (c : Comparison a) → (claim : Lease Comparing) → claim.numbers ≡ c.claim → (v : Concluded) (a' : Area) → Conclusion c.now claim (Ok v) a' → count_of v ≡ told c.claim c.since
 counted a c claim same v a' does =
     let s = started_so c in
-    let start : c.begun.examined ≡ 0 = ap (λ (x : Work). x.examined) s.beginning.1.after in
+    let start : c.begun.examined ≡ 0 = ap (λ (x : View). x.examined) s.beginning.1.after in
     ⊎_elim
     (λ here. omega (arith, tells_examined c.now a' claim v does, here.1))
-    (λ gone. absurd (not_holders c.claim (said c.now) claim.numbers gone (permitted (said c.now) claim.numbers Conclude does.0).0 (these c.claim claim.numbers same)))
+    (λ gone. absurd (not_holders c.claim (view c.now) claim.numbers gone (permitted (view c.now) claim.numbers Conclude does.0).0 (these c.claim claim.numbers same)))
     (run_tallied c.claim c.since c.begun c.now 0 c.goes_on (inl (started_held c.schemas c.claim c.at c.begun s, start)))

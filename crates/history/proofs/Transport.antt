@@ -2,7 +2,7 @@
 use Rattle.std.proofs.Common.{◌≡◌, ℕ, ◌^◌, ◌<◌, Bool, true, false, ◌&&◌, ltb, zero, suc, List, [], ◌∷◌, get_or, refl, ap, ◌∙◌}
 use Rattle.std.proofs.lemmas.Bool.{ltb-true}
 use Rattle.schema.specs.Tables.{Tables, automaton, domain_number}
-use Rattle.compare.proofs.Grown.{same_automata}
+use Rattle.compare.proofs.Invariant.{same_automata}
 use Rattle.history.specs.Calls.{Handed, first_of, second_of, SameSets, Same}
 
 -- the same set is found at each place

@@ -22,14 +22,14 @@ use Rattle.compare.specs.declared.phase.Kind.TheVariants.{Value}
 use Rattle.compare.specs.declared.phase.Phase.{Phase}
 use Rattle.compare.specs.declared.phase.Phase.TheVariants as phase
 use Rattle.compare.specs.Concluding.{claim_refusal}
-use Rattle.compare.specs.Growing.{Path, Grown, LastBroken, Stands}
+use Rattle.compare.specs.Invariant.{StatePath, Invariant, LastBroken, Stands}
 use Rattle.compare.specs.Phases.{decided}
 use Rattle.compare.specs.Refusals.{by_phase, not_held, of_another, other_counts, other_symbols, phase_refuses}
 use Rattle.compare.specs.Stepping.{Turns}
 use Rattle.compare.specs.Trailing.{Trail, broken_index}
-use Rattle.compare.specs.Work.{Work, said, held_by}
+use Rattle.compare.specs.View.{View, view, held_by}
 use Rattle.compare.proofs.Allowing.{fails}
-use Rattle.compare.proofs.Grown.{last_index}
+use Rattle.compare.proofs.Invariant.{last_index}
 use Rattle.compare.proofs.Trails.{one_trail}
 use Rattle.document.specs.Documents.{Way, symbols_of, DocumentOf}
 use Rattle.document.specs.Writing.{kept_from}
@@ -44,34 +44,34 @@ use Rattle.history.proofs.Transport.{same_first, same_second}
 use Rattle.history.proofs.Verdicts.{Known, known_on, not_held_by, started_known}
 
 -- writing is for an area that is apart
-writing_apart : (w : Work) (p : Phase) → by_phase w (decided p Write) ≡ None → (k : Kind) × (p ≡ phase.Apart k)
+writing_apart : (w : View) (p : Phase) → by_phase w (decided p Write) ≡ None → (k : Kind) × (p ≡ phase.Apart k)
 writing_apart w phase.Free h = absurd (some_not_none h)
 writing_apart w phase.Running h = absurd (some_not_none h)
 writing_apart w (phase.Ready v) h = absurd (some_not_none h)
 writing_apart w (phase.Apart k) h = (k, refl)
 
 -- who writes with an accepted trail or document: the holder of an area that is apart
-record Writer (d : Call) (w : Work) : Type 0 where
+record Writer (d : Call) (w : View) : Type 0 where
   numbers : Numbers
   holds : Holder w numbers
   made : (n : Numbers) → is_made_with n d ≡ are n numbers
   apart : (k : Kind) × (w.phase ≡ phase.Apart k)
 
-writer : (d : Call) (a a' : Area) → Does d a a' → is_writing d ≡ true → Writer d (said a)
+writer : (d : Call) (a a' : Area) → Does d a a' → is_writing d ≡ true → Writer d (view a)
 writer (take_up h r) a a' does so = absurd (false≢true so)
 writer (oust h r) a a' does so = absurd (false≢true so)
 writer (step m h k slots r) a a' does so = absurd (false≢true so)
 writer (conclude c r) a a' does so = absurd (false≢true so)
 writer (trail c o (Ok r) o') a a' does so =
-    let none = (first_none (claim_refusal (said a) c.numbers Write) _ does.0.2.0).0 in
-    let may = permitted (said a) c.numbers Write none in
-    record { numbers = c.numbers; holds = may.0; made = λ n. refl; apart = writing_apart (said a) a.phase may.1 }
+    let none = (first_none (claim_refusal (view a) c.numbers Write) _ does.0.2.0).0 in
+    let may = permitted (view a) c.numbers Write none in
+    record { numbers = c.numbers; holds = may.0; made = λ n. refl; apart = writing_apart (view a) a.phase may.1 }
 writer (trail c o (Err e) o') a a' does so = absurd (false≢true so)
 writer (document m h slots levels o (Ok size) o') a a' does so =
     ⊎_elim
     (λ refused. absurd (false≢true (sym (ap is_ok refused.2))))
     (λ found.
-    let w = said a in
+    let w = view a in
     let kept = (first_none (kept_from w h.first h.second m slots levels) [] (first_none (either_fault h.first h.second) _ found.0).1).0 in
     let near = first_none (of_another w m.area) _ (first_none (other_symbols w h.first h.second) _ kept).1 in
     let held = first_none (not_held w m.serial) _ near.1 in
@@ -83,24 +83,24 @@ writer (give_up c r) a a' does so = absurd (false≢true so)
 writer (give_up_apart c r) a a' does so = absurd (false≢true so)
 
 -- no turn is taken of an area that does not run
-pub turns_none : (A B : Automaton) (j : ℕ) (w w' : Work) → (w.phase ≡ phase.Running → ⊥) → Turns A B j w w' → w' ≡ w
+pub turns_none : (A B : Automaton) (j : ℕ) (w w' : View) → (w.phase ≡ phase.Running → ⊥) → Turns A B j w w' → w' ≡ w
 turns_none A B zero w w' still turns = turns
-turns_none A B (suc j) w w' still turns = absurd (still (ap (λ (x : Work). x.phase) (sym (turns_none A B j w turns.0 still turns.1)) ∙ turns.2))
+turns_none A B (suc j) w w' still turns = absurd (still (ap (λ (x : View). x.phase) (sym (turns_none A B j w turns.0 still turns.1)) ∙ turns.2))
 
 -- the comparison holds an area that is apart, with this list and this broken pair
-record Fixed (n : Numbers) (k : Kind) (es : List Listed) (i : ℕ) (w : Work) : Type 0 where
+record Fixed (n : Numbers) (k : Kind) (es : List Listed) (i : ℕ) (w : View) : Type 0 where
   held : Held n w
   apart : w.phase ≡ phase.Apart k
   pairs : w.pairs ≡ es
   index : broken_index w ≡ i
 
 module _ (n : Numbers) (k : Kind) (es : List Listed) (i : ℕ) where
-  fixed_on : (d : Call) (a a' : Area) → Effect d a a' → Fixed n k es i (said a) → Fixed n k es i (said a') ⊎ Gone n (said a')
-  fixed_on d a a' (keeps left none) fixed = inl (subst (λ (x : Area). Fixed n k es i (said x)) (sym left) fixed)
+  fixed_on : (d : Call) (a a' : Area) → Effect d a a' → Fixed n k es i (view a) → Fixed n k es i (view a') ⊎ Gone n (view a')
+  fixed_on d a a' (keeps left none) fixed = inl (subst (λ (x : Area). Fixed n k es i (view x)) (sym left) fixed)
   fixed_on d a a' (begins h claim e begun made how) fixed = inr (begun_ends n a a' e h claim begun fixed.held)
   fixed_on d a a' (steps m h count slots answer is stepping) fixed =
       let still : a.phase ≡ phase.Running → ⊥ = λ runs. false≢true (ap is_apart (sym runs ∙ fixed.apart)) in
-      inl (subst (Fixed n k es i) (sym (turns_none (first_of h) (second_of h) stepping.1.stepped.taken (said a) (said a') still stepping.1.stepped.turns)) fixed)
+      inl (subst (Fixed n k es i) (sym (turns_none (first_of h) (second_of h) stepping.1.stepped.taken (view a) (view a') still stepping.1.stepped.turns)) fixed)
   fixed_on d a a' (parts c j count claim is concluding) fixed = absurd (false≢true (ap is_apart (sym concluding.1.0 ∙ fixed.apart)))
   fixed_on d a a' (ends m h made which freed) fixed = inr (end_ends n a a' freed fixed.held)
 
@@ -147,32 +147,32 @@ module _ (g : Handed) (n : Numbers) (k : Kind) (es : List Listed) (i : ℕ) (way
       (λ c o r o' is its. absurd (not (ap (is_made_with n) is ∙ its) (ap is_writing is)))
       (λ m h slots levels o size o' is its same. absurd (not (ap (is_made_with n) is ∙ its) (ap is_writing is)))
 
-  gone_unwritten : (d : Call) (a a' : Area) → Does d a a' → Gone n (said a) → is_made_with n d ≡ true → is_writing d ≡ true → ⊥
-  gone_unwritten d a a' does gone its so = let w = writer d a a' does so in not_holders n (said a) w.numbers gone w.holds (sym (w.made n) ∙ its)
+  gone_unwritten : (d : Call) (a a' : Area) → Does d a a' → Gone n (view a) → is_made_with n d ≡ true → is_writing d ≡ true → ⊥
+  gone_unwritten d a a' does gone its so = let w = writer d a a' does so in not_holders n (view a) w.numbers gone w.holds (sym (w.made n) ∙ its)
 
   module _ (leads : Way es i way) where
-    fixed_trail : (c : Lease Apart) (o : List ℕ) (r : ℕ × Lease Apart) (o' : List ℕ) (a a' : Area) → Does (trail c o (Ok r) o') a a' → Fixed n k es i (said a) → TrailSo r.0 o o'
+    fixed_trail : (c : Lease Apart) (o : List ℕ) (r : ℕ × Lease Apart) (o' : List ℕ) (a a' : Area) → Does (trail c o (Ok r) o') a a' → Fixed n k es i (view a) → TrailSo r.0 o o'
     fixed_trail c o r o' a a' does fixed =
         let t = does.0 in
-        let there = subst (λ (j : ℕ). Trail es j t.0) fixed.index (subst (λ (fs : List Listed). Trail fs (broken_index (said a)) t.0) fixed.pairs t.1) in
+        let there = subst (λ (j : ℕ). Trail es j t.0) fixed.index (subst (λ (fs : List Listed). Trail fs (broken_index (view a)) t.0) fixed.pairs t.1) in
         let same : t.0 ≡ symbols_of way = one_trail es i t.0 (symbols_of way) there (way_trail es i way leads) in
         (t.2.1 ∙ ap length same ∙ length-map way (λ (e : Listed). e.symbol), t.2.3 ∙ ap (overwritten o 0) same)
 
-    fixed_document : (m : Numbers) (h : Handed) (slots levels : ℕ) (o : List ℕ) (size : ℕ) (o' : List ℕ) (a a' : Area) → Does (document m h slots levels o (Ok size) o') a a' → Same g h → Fixed n k es i (said a) → DocumentSo size o o'
+    fixed_document : (m : Numbers) (h : Handed) (slots levels : ℕ) (o : List ℕ) (size : ℕ) (o' : List ℕ) (a a' : Area) → Does (document m h slots levels o (Ok size) o') a a' → Same g h → Fixed n k es i (view a) → DocumentSo size o o'
     fixed_document m h slots levels o size o' a a' does same fixed =
         ⊎_elim
         (λ refused. absurd (false≢true (sym (ap is_ok refused.2))))
         (λ found.
         let d = found.1.0 in
         let its =
-        moved (first_of h) (first_of g) (second_of h) (second_of g) d.document.0 k (said a).pairs es (broken_index (said a)) i d.way d.tree (sym (same_first g h same)) (sym (same_second g h same)) (same_kind d.document.0 k (sym d.document.1 ∙ fixed.apart)) fixed.pairs fixed.index d.document.2
+        moved (first_of h) (first_of g) (second_of h) (second_of g) d.document.0 k (view a).pairs es (broken_index (view a)) i d.way d.tree (sym (same_first g h same)) (sym (same_second g h same)) (same_kind d.document.0 k (sym d.document.1 ∙ fixed.apart)) fixed.pairs fixed.index d.document.2
         in
         let along : DocumentOf (first_of g) (second_of g) k es i way d.tree = subst (λ (v : List Listed). DocumentOf (first_of g) (second_of g) k es i v d.tree) (one_way es i d.way way its.leads leads) its in
         let told = built_tells (first_of g) (second_of g) k 0 0 way d.tree along.built in
         (d.tree, along, told.0, told.1, found.1.1, found.1.4))
         does.0
 
-    fixed_writes : (d : Call) (a a' : Area) → Does d a a' → Fixed n k es i (said a) → Writes d
+    fixed_writes : (d : Call) (a a' : Area) → Does d a a' → Fixed n k es i (view a) → Writes d
     fixed_writes d a a' does fixed =
         writes d
         (λ c o r o' is its. fixed_trail c o r o' a a' (subst (λ (x : Call). Does x a a') is does) fixed)
@@ -180,7 +180,7 @@ module _ (g : Handed) (n : Numbers) (k : Kind) (es : List Listed) (i : ℕ) (way
 
     -- each call from there on
     abbrev Still : Area → Type 0
-    Still a = Fixed n k es i (said a) ⊎ Gone n (said a)
+    Still a = Fixed n k es i (view a) ⊎ Gone n (view a)
 
     still_on : (d : Call) (a a' : Area) → Does d a a' → Still a → Writes d × Still a'
     still_on d a a' does (inl fixed) = (fixed_writes d a a' does fixed, fixed_on n k es i d a a' (effect d a a' does) fixed)
@@ -201,15 +201,15 @@ module _ (g : Handed) (n : Numbers) where
       record { pairs = w.pairs; starts = w.starts; index = w.index; entry = w.entry; at = w.at; kind = w.kind; broken = w.broken; way = w.way; leads = w.leads; live = w.live; beside = w.beside; trails = (none.0, w.trails); documents = (none.1, w.documents); stands = w.stands }
 
   -- a holder is of an area that it holds
-  still_held : (k : Kind) (es : List Listed) (i : ℕ) (now : Area) → Fixed n k es i (said now) ⊎ Gone n (said now) → held_by (said now) n.serial ≡ true → ((said now).phase ≡ phase.Apart k) × ((said now).pairs ≡ es) × (broken_index (said now) ≡ i)
+  still_held : (k : Kind) (es : List Listed) (i : ℕ) (now : Area) → Fixed n k es i (view now) ⊎ Gone n (view now) → held_by (view now) n.serial ≡ true → ((view now).phase ≡ phase.Apart k) × ((view now).pairs ≡ es) × (broken_index (view now) ≡ i)
   still_held k es i now (inl fixed) held = (fixed.apart, fixed.pairs, fixed.index)
   still_held k es i now (inr gone) held =
-      absurd (not_held_by n (said now) gone held)
+      absurd (not_held_by n (view now) gone held)
 
   -- from an area on that is apart
-  wrote_from : (cs : List Call) (a now : Area) (k : Kind) → Runs cs a now → Held n (said a) → Grown (first_of g) (second_of g) (said a) → a.phase ≡ phase.Apart k → WroteBy g n cs now
+  wrote_from : (cs : List Call) (a now : Area) (k : Kind) → Runs cs a now → Held n (view a) → Invariant (first_of g) (second_of g) (view a) → a.phase ≡ phase.Apart k → WroteBy g n cs now
   wrote_from cs a now k runs held grown apart =
-      let w = said a in
+      let w = view a in
       let last : LastBroken (first_of g) (second_of g) w k = subst (Stands (first_of g) (second_of g) w) apart grown.stands in
       let inside : w.examined - 1 < length w.pairs = slice_get_within w.pairs (w.examined - 1) last.pair last.at in
       let place : broken_index w ≡ w.examined - 1 = last_index (first_of g) (second_of g) w k last in
@@ -228,14 +228,14 @@ module _ (g : Handed) (n : Numbers) where
         way = way.0;
         leads = way.1;
         live = subst (λ (v : List ℕ). LivePath (first_of g) 0 v last.pair.first) along reached.2;
-        beside = subst (λ (v : List ℕ). Path (second_of g) 0 v last.pair.second) along reached.3;
+        beside = subst (λ (v : List ℕ). StatePath (second_of g) 0 v last.pair.second) along reached.3;
         trails = run.0;
         documents = run.1;
         stands = still_held k w.pairs (w.examined - 1) now run.2;
       }
 
   -- where it has ended it writes no more
-  gone_none : (cs : List Call) (a now : Area) → Runs cs a now → Gone n (said a) → some (λ d. is_made_with n d && is_writing d) cs ≡ true → ⊥
+  gone_none : (cs : List Call) (a now : Area) → Runs cs a now → Gone n (view a) → some (λ d. is_made_with n d && is_writing d) cs ≡ true → ⊥
   gone_none [] a now runs gone so = false≢true so
   gone_none (d ∷ cs) a now runs gone so =
       ⊎_elim

@@ -7,7 +7,7 @@ use Rattle.compare.specs.declared.claim.Lease.{Lease}
 use Rattle.compare.specs.declared.claim.Numbers.{Numbers}
 use Rattle.compare.specs.declared.conclude.Concluded.TheVariants as concluded
 use Rattle.compare.specs.declared.phase.Kind.TheVariants.{Content}
-use Rattle.compare.specs.Work.{said, free}
+use Rattle.compare.specs.View.{view, free}
 use Rattle.history.specs.Calls.{Handed, Call, take_up, oust, step, conclude, trail, document, give_up, give_up_apart, Runs}
 use Rattle.history.specs.Marked.{zero_alone, U, V}
 
@@ -44,4 +44,4 @@ example =
 
 -- the example is a history of area 7, as it is when made
 abbrev pub ExampleRuns : Type 0
-ExampleRuns = (a : Area) → said a ≡ free 7 0 → (last : Area) × Runs example a last
+ExampleRuns = (a : Area) → view a ≡ free 7 0 → (last : Area) × Runs example a last

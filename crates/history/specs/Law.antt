@@ -21,10 +21,10 @@ use Rattle.compare.specs.declared.phase.Kind.{Kind}
 use Rattle.compare.specs.declared.phase.Phase.TheVariants as phase
 use Rattle.compare.specs.Breaking.{Broken, ToldApart}
 use Rattle.compare.specs.Concluding.{claim_refusal, Conclusion}
-use Rattle.compare.specs.Growing.{Path}
-use Rattle.compare.specs.Strangers.{is_holder}
+use Rattle.compare.specs.Invariant.{StatePath}
+use Rattle.compare.specs.NotHolder.{is_holder}
 use Rattle.compare.specs.Trailing.{broken_index}
-use Rattle.compare.specs.Work.{said, start, held_by}
+use Rattle.compare.specs.View.{view, start, held_by}
 use Rattle.document.specs.Documents.{Way, symbols_of, DocumentOf}
 use Rattle.history.specs.Calls.{Handed, first_of, second_of, Same, Call, take_up, oust, step, conclude, trail, document, give_up, give_up_apart, Does, are, is_beginning, is_made_with, is_conclusion, is_inclusion, is_parting, is_giving_up, some, granted, StepsOver, Comparison}
 
@@ -41,7 +41,7 @@ is_included (Apart k n claim) = false
 -- apart tells; nothing is said of included
 abbrev pub ReachesBroken : Automaton → Automaton → Concluded → Type 0
 ReachesBroken A B (Included n) = Unit {0}
-ReachesBroken A B (Apart k n claim) = (w : List ℕ) × (p : ℕ) × (q : ℕ) × LivePath A 0 w p × Path B 0 w q × Broken A B k p q
+ReachesBroken A B (Apart k n claim) = (w : List ℕ) × (p : ℕ) × (q : ℕ) × LivePath A 0 w p × StatePath B 0 w q × Broken A B k p q
 
 -- the conclusion is right: included exactly where there is inclusion, and apart exactly where the first automaton alone accepts a tree, by
 -- the kind of a broken pair that both reach
@@ -123,10 +123,10 @@ pub record WroteBy (g : Handed) (n : Numbers) (calls : List Call) (now : Area) :
   pub way : List Listed
   pub leads : Way pairs index way
   pub live : LivePath (first_of g) 0 (symbols_of way) entry.first
-  pub beside : Path (second_of g) 0 (symbols_of way) entry.second
+  pub beside : StatePath (second_of g) 0 (symbols_of way) entry.second
   pub trails : AllByRecursion (WritesTrail n way) calls
   pub documents : AllByRecursion (WritesDocument n g kind pairs index way) calls
-  pub stands : held_by (said now) n.serial ≡ true → ((said now).phase ≡ phase.Apart kind) × ((said now).pairs ≡ pairs) × (broken_index (said now) ≡ index)
+  pub stands : held_by (view now) n.serial ≡ true → ((view now).phase ≡ phase.Apart kind) × ((view now).pairs ≡ pairs) × (broken_index (view now) ≡ index)
 
 -- what a comparison has written
 abbrev pub Wrote : {a : Area} → Comparison a → Type 0
@@ -181,13 +181,13 @@ pub record EveryHistory (a : Area) : Type 0 where
   -- what it has written is built along one way, and tells its schemas apart
   pub written : (c : Comparison a) → StepsOverItsOwn c → own_call c is_writing ≡ true → Wrote c
   -- concluded apart, and as long as its claim is the holder, the area is apart
-  pub apart : (c : Comparison a) → own_call c is_parting ≡ true → is_holder (said c.now) c.claim ≡ true → (k : Kind) × ((said c.now).phase ≡ phase.Apart k)
+  pub apart : (c : Comparison a) → own_call c is_parting ≡ true → is_holder (view c.now) c.claim ≡ true → (k : Kind) × ((view c.now).phase ≡ phase.Apart k)
   -- and a document that is asked for with its numbers, its schemas and scratch enough is refused for want of room alone
-  pub documented : (c : Comparison a) → StepsOverItsOwn c → own_call c is_parting ≡ true → is_holder (said c.now) c.claim ≡ true → (h : Handed) → Same c.schemas h → (slots levels : ℕ) → 272 ≤ slots → 4160 ≤ levels → (o : List ℕ) (e : Refusal) (o' : List ℕ) (a' : Area) → Does (document c.claim h slots levels o (Err e) o') c.now a' → e.fault ≡ Room
+  pub documented : (c : Comparison a) → StepsOverItsOwn c → own_call c is_parting ≡ true → is_holder (view c.now) c.claim ≡ true → (h : Handed) → Same c.schemas h → (slots levels : ℕ) → 272 ≤ slots → 4160 ≤ levels → (o : List ℕ) (e : Refusal) (o' : List ℕ) (a' : Area) → Does (document c.claim h slots levels o (Err e) o') c.now a' → e.fault ≡ Room
   -- neither ousted nor given up, it has its verdict once the steps granted reach the product of the state counts: its conclude has been
   -- accepted, or would be now
-  pub in_time : (c : Comparison a) → some is_ousting c.since ≡ false → own_call c is_giving_up ≡ false → c.schemas.first.states * c.schemas.second.states ≤ granted c.claim c.since → (own_call c is_conclusion ≡ true) ⊎ (claim_refusal (said c.now) c.claim Conclude ≡ None)
+  pub in_time : (c : Comparison a) → some is_ousting c.since ≡ false → own_call c is_giving_up ≡ false → c.schemas.first.states * c.schemas.second.states ≤ granted c.claim c.since → (own_call c is_conclusion ≡ true) ⊎ (claim_refusal (view c.now) c.claim Conclude ≡ None)
   -- until it is given up, concluded included or ousted, its claim is the holder
-  pub holds : (c : Comparison a) → some is_ousting c.since ≡ false → own_call c is_giving_up ≡ false → own_call c is_inclusion ≡ false → is_holder (said c.now) c.claim ≡ true
+  pub holds : (c : Comparison a) → some is_ousting c.since ≡ false → own_call c is_giving_up ≡ false → own_call c is_inclusion ≡ false → is_holder (view c.now) c.claim ≡ true
   -- once another comparison has begun, a call with its claim or numbers is turned away, and the area stays as it was
   pub ousted : (c : Comparison a) → some is_beginning c.since ≡ true → (d : Call) → is_made_with c.claim d ≡ true → (a' : Area) → Does d c.now a' → TurnedAway d × (a' ≡ c.now)

@@ -19,7 +19,7 @@ use Rattle.compare.specs.declared.phase.Phase.TheVariants.{Ready}
 use Rattle.compare.specs.declared.phase.Verdict.{Verdict}
 use Rattle.compare.specs.declared.phase.Verdict.TheVariants.{Included, Apart}
 use Rattle.compare.specs.Stepping.{Stepped}
-use Rattle.compare.specs.Work.{Work, start, begun}
+use Rattle.compare.specs.View.{View, start, begun}
 use Rattle.document.specs.Documents.{DocumentOf}
 
 -- the keyword domain {0}, of each schema below
@@ -61,7 +61,7 @@ over_zero T = automaton T zero_alone
 -- a comparison, begun anywhere and stepped as far as one step goes, comes to something, and to nothing but the verdict, with so many pairs
 -- examined
 abbrev pub ComesTo : Tables → Tables → Verdict → ℕ → Type 0
-ComesTo S T v n = (w : Work) (live : Bool) → Decides live (Live (over_zero S) 0) → ((w' : Work) × Stepped (over_zero S) (over_zero T) 4096 (begun w S T live) w') × ((w' : Work) → Stepped (over_zero S) (over_zero T) 4096 (begun w S T live) w' → (w'.phase ≡ Ready v) × (w'.examined ≡ n))
+ComesTo S T v n = (w : View) (live : Bool) → Decides live (Live (over_zero S) 0) → ((w' : View) × Stepped (over_zero S) (over_zero T) 4096 (begun w S T live) w') × ((w' : View) → Stepped (over_zero S) (over_zero T) 4096 (begun w S T live) w' → (w'.phase ≡ Ready v) × (w'.examined ≡ n))
 
 -- the bytes are those of the document for the pair (0, 0), broken in content
 abbrev pub HasDocument : Tables → Tables → List ℕ → Type 0

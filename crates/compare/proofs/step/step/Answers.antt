@@ -6,15 +6,15 @@ use Rattle.schema.specs.declared.tested.Tested.{Tested}
 use Rattle.schema.specs.Tables.{tables, sets, automaton}
 use Rattle.compare.specs.Schemas.{Noted}
 use Rattle.compare.specs.Stepping.{step_kept_from, step_refusal, StepsOn}
-use Rattle.compare.specs.Work.{said}
+use Rattle.compare.specs.View.{view}
 use Rattle.compare.proofs.Allowing.{allows}
 use Rattle.compare.proofs.Beginnings.{past_either}
 use Rattle.compare.proofs.step.step.Goals as goal
 
 pub returns-clause-outcome : goal.returns-clause-outcome
 returns-clause-outcome g c =
-    let w = said c.args.area.now in
-    let w' = said c.examine_up_to.new.self in
+    let w = view c.args.area.now in
+    let w' = view c.examine_up_to.new.self in
     let compared = c.of.result in
     let s = compared.first.now.measured.schema in
     let u = compared.second.now.measured.schema in
@@ -38,7 +38,7 @@ returns-clause-outcome g c =
 
 pub returns-in_err-slots-clause-outcome : goal.returns-in_err-slots-clause-outcome
 returns-in_err-slots-clause-outcome g c =
-    let w = said c.args.area.now in
+    let w = view c.args.area.now in
     let s = c.in_ok-first.first.measured.schema in
     let u = c.in_ok-first.second.measured.schema in
     let slots = length c.args.scratch.now in

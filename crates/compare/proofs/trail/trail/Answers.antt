@@ -6,20 +6,20 @@ use Rattle.compare.specs.declared.claim.Numbers.{Numbers}
 use Rattle.compare.specs.declared.event.Event.TheVariants.{Write}
 use Rattle.compare.specs.Concluding.{claim_refusal}
 use Rattle.compare.specs.Trailing.{Trail, no_room}
-use Rattle.compare.specs.Work.{said}
+use Rattle.compare.specs.View.{view}
 use Rattle.compare.proofs.Trails.{broken_trail, found_next}
 use Rattle.compare.proofs.trail.trail.Goals as goal
 
 pub returns-in-Err-clause-outcome : goal.returns-in-Err-clause-outcome
 returns-in-Err-clause-outcome g c =
-    let s = said c.args.area.now in
+    let s = view c.args.area.now in
     let w = broken_trail c.args.area.now in
     let told = ap (λ (n : Numbers). claim_refusal s n Write) (sym c.numbers.ensures) ∙ c.in-Err.ensures in
     (w.0, w.1, (ap (λ o. first_of (o ∷ no_room c.args.output.now w.0 ∷ [])) told, refl))
 
 pub returns-then-output-needed-clause-outcome : goal.returns-then-output-needed-clause-outcome
 returns-then-output-needed-clause-outcome g c =
-    let s = said c.args.area.now in
+    let s = view c.args.area.now in
     let output = c.args.output.now in
     let w = broken_trail c.args.area.now in
     let told = ap (λ (n : Numbers). claim_refusal s n Write) (sym c.numbers.ensures) ∙ c.in_default.ensures in
@@ -30,7 +30,7 @@ returns-then-output-needed-clause-outcome g c =
 
 pub returns-clause-outcome : goal.returns-clause-outcome
 returns-clause-outcome g c =
-    let s = said c.args.area.now in
+    let s = view c.args.area.now in
     let output = c.args.output.now in
     let w = broken_trail c.args.area.now in
     let told = ap (λ (n : Numbers). claim_refusal s n Write) (sym c.numbers.ensures) ∙ c.in_default.ensures in

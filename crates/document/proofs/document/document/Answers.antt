@@ -2,7 +2,7 @@
 use Rattle.std.proofs.Common.{length, Some, None, sym, refl, ap, ◌∙◌, inl, inr}
 use Rattle.std.proofs.lemmas.Result.{err_from_is_err_and}
 use Rattle.schema.specs.Tables.{tables}
-use Rattle.compare.specs.Work.{said}
+use Rattle.compare.specs.View.{view}
 use Rattle.compare.proofs.Beginnings.{past_either}
 use Rattle.document.specs.Writing.{kept_from}
 use Rattle.document.proofs.Calling.{allowed_by, handed_over}
@@ -13,7 +13,7 @@ returns-in_err-slots-clause-outcome g c =
     let tests = c.in_ok-first in
     let s = tests.first.measured.schema in
     let u = tests.second.measured.schema in
-    let kept = kept_from (said c.args.area.now) (tables s) (tables u) c.args.claim (length c.args.scratch.now) (length c.args.levels.now) in
+    let kept = kept_from (view c.args.area.now) (tables s) (tables u) c.args.claim (length c.args.scratch.now) (length c.args.levels.now) in
     let p = err_from_is_err_and c.from_residual-in_err-slots.result c.from_residual-in_err-slots.ensures.1 in
     handed_over g.D.Domain.holds s c.args.first.now u c.args.second.now tests.ensures.0 tests.ensures.1 _ _ _ c.args.area.now _ _ _
     (inl (p.0, past_either (tables s) (tables u) kept (Some p.0) tests.first.sound tests.second.sound (c.in_err-slots.ensures ∙ ap Some (sym p.2)), p.1, refl))
@@ -23,7 +23,7 @@ returns-clause-outcome g c =
     let tests = c.in_ok-first in
     let s = tests.first.measured.schema in
     let u = tests.second.measured.schema in
-    let w = said c.args.area.now in
+    let w = view c.args.area.now in
     let slots = length c.args.scratch.now in
     let levels = length c.args.levels.now in
     let may = allowed_by w (tables s) (tables u) c.args.claim slots levels c.in_ok-slots.ensures in

@@ -6,7 +6,7 @@ use Rattle.schema.specs.declared.tables.TheConstants.{STATES}
 use Rattle.schema.specs.Meaning.{meaning, tables_of}
 use Rattle.compare.specs.Listing.{entries_of}
 use Rattle.compare.specs.Refusals.{other_counts}
-use Rattle.compare.specs.Work.{said}
+use Rattle.compare.specs.View.{view}
 use Rattle.compare.specs.Writing.{BrokenOf}
 use Rattle.compare.proofs.Views.{kept_of, many_of}
 use Rattle.document.specs.declared.counterexample.Counterexample.{Counterexample}
@@ -19,7 +19,7 @@ use Rattle.document.proofs.document.write_document.Goals as goal
 use Rattle.document.proofs.document.write_document.Goals.{After-trace}
 use Rattle.document.proofs.document.write_document.Given as given
 
-module _ (g : given.Over) (c : After-trace g) (counts : other_counts (said c.args.area.now) (tables_of c.args.first.now) (tables_of c.args.second.now) ≡ None) (long : LEVELS ≤ length c.args.levels.now) where
+module _ (g : given.Over) (c : After-trace g) (counts : other_counts (view c.args.area.now) (tables_of c.args.first.now) (tables_of c.args.second.now) ≡ None) (long : LEVELS ≤ length c.args.levels.now) where
   -- what the document is written from
   abbrev counterexample : Counterexample g.row.D.Denot
   counterexample = record {
@@ -56,7 +56,7 @@ returns g c = λ counts long.
     let b = c.in-Some.broken in
     let es = entries_of b.pairs.now in
     let d = subst (λ (o : Option ℕ). TracesBack A B es b.kind b.index o c.trace.new.levels.entries) c.in-Some-trace.is (traced g at counts long) in
-    let found : Found A B (said a) = record { way = d.path; tree = d.tree; document = found_in A B a b (of g at counts long) d.path d.tree d.document } in
+    let found : Found A B (view a) = record { way = d.path; tree = d.tree; document = found_in A B a b (of g at counts long) d.path d.tree d.document } in
     let levels = ap length d.marked ∙ length-map d.steps (λ (s : PathStep A B es). mark s.place) in
     let free : STATES ≤ length c.trace.new.levels.free = omega (arith, long, c.trace.ensures.slots, ap length c.new-levels.ensures.empty, ap length c.new-levels.ensures.over, levels, d.few, slice_get_within es b.index d.last d.listed, many_of b.pairs.now, (kept_of b.pairs.now).short) in
     answered A B a found c.args.bytes.now c.write_traced.result c.write_traced.new.bytes (c.write_traced.ensures (ready g at counts long) free d)

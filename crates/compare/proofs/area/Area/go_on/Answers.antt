@@ -7,7 +7,7 @@ use Rattle.schema.proofs.Permits.{permit_all}
 use Rattle.schema.proofs.Sizes.{sized}
 use Rattle.schema.specs.Meaning.{meaning}
 use Rattle.compare.specs.Stepping.{with_nexts, going_on}
-use Rattle.compare.specs.Work.{said}
+use Rattle.compare.specs.View.{view}
 use Rattle.compare.proofs.Goings.{none_left, one_left, live_same}
 use Rattle.compare.proofs.area.Area.go_on.Goals as goal
 use Rattle.compare.proofs.area.Area.go_on.Goals.{then-place-length, else-place-length}
@@ -18,7 +18,7 @@ returns g c = λ noted mask at led.
     let s = compared.first.now.measured.schema in
     let A = meaning g.D.Domain.holds compared.first.now in
     let B = meaning g.D.Domain.holds compared.second.now in
-    let w = said c.args.self.now in
+    let w = view c.args.self.now in
     let live = bit c.live_symbols-symbols.result in
     let p = c.args.pair.first in
     let q = c.args.pair.second in

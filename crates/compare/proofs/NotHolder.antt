@@ -15,13 +15,13 @@ use Rattle.compare.specs.declared.event.Event.TheVariants.{Conclude, Write}
 use Rattle.compare.specs.Concluding.{claim_refusal, Conclusion, GivingUp}
 use Rattle.compare.specs.Refusals.{other_symbols, phase_refuses, where_found, held_kept_from}
 use Rattle.compare.specs.Stepping.{step_kept_from, step_refusal, Stepping}
-use Rattle.compare.specs.Strangers.{is_holder, stranger, StepOfStranger, ConclusionOfStranger, TrailOfStranger, GivingUpOfStranger}
+use Rattle.compare.specs.NotHolder.{is_holder, refusal_of_not_holder, StepByNotHolder, ConclusionByNotHolder, TrailByNotHolder, GivingUpByNotHolder}
 use Rattle.compare.specs.Trailing.{no_room, trail_refusal, TrailAnswer}
-use Rattle.compare.specs.Work.{Work, said, held_by}
+use Rattle.compare.specs.View.{View, view, held_by}
 use Rattle.compare.proofs.Tests.{holder_refused, held_refused}
 
 -- what is asked with numbers that are not the holder's is refused
-pub claim_refused : (w : Work) (n : Numbers) (e : Event) → is_holder w n ≡ false → claim_refusal w n e ≡ Some (stranger w n)
+pub claim_refused : (w : View) (n : Numbers) (e : Event) → is_holder w n ≡ false → claim_refusal w n e ≡ Some (refusal_of_not_holder w n)
 claim_refused w n e other = ap (λ (o : Option Refusal). first_of (o ∷ phase_refuses w e ∷ [])) (holder_refused w n other)
 
 -- what is found among the first tests is found of more behind them
@@ -47,61 +47,61 @@ some_found (Some e) p x none = none-some _ (sym none)
 some_found None (Some e) x none = none-some _ (sym none)
 some_found None None x none = none-some _ (sym none)
 
-pub step_of_stranger : StepOfStranger
-unfolding StepOfStranger
-step_of_stranger T U sets others claim n slots a r a' is other = by r is
+pub step_by_not_holder : StepByNotHolder
+unfolding StepByNotHolder
+step_by_not_holder T U sets others claim n slots a r a' is other = by r is
   where
-    w : Work
-    w = said a
+    w : View
+    w = view a
 
-    same : step_refusal w T U claim n slots ≡ first_of (either_fault T U ∷ other_symbols w T U ∷ Some (stranger w claim) ∷ [])
-    same = found_third (either_fault T U) (other_symbols w T U) (step_kept_from w T U claim n slots) (stranger w claim) (found_within (other_symbols w T U) (held_kept_from w T U claim) (stranger w claim) _ (held_refused w claim T U other))
+    same : step_refusal w T U claim n slots ≡ first_of (either_fault T U ∷ other_symbols w T U ∷ Some (refusal_of_not_holder w claim) ∷ [])
+    same = found_third (either_fault T U) (other_symbols w T U) (step_kept_from w T U claim n slots) (refusal_of_not_holder w claim) (found_within (other_symbols w T U) (held_kept_from w T U claim) (refusal_of_not_holder w claim) _ (held_refused w claim T U other))
 
-    by : (r : Result (ℕ × ℕ) Refusal) → Stepping T U sets others claim n slots a r a' → (e : Refusal) × (r ≡ Err e) × (first_of (either_fault T U ∷ other_symbols w T U ∷ Some (stranger w claim) ∷ []) ≡ Some e) × (a' ≡ a)
-    by (Ok answer) is = absurd (some_found (either_fault T U) (other_symbols w T U) (stranger w claim) (sym same ∙ is.0))
+    by : (r : Result (ℕ × ℕ) Refusal) → Stepping T U sets others claim n slots a r a' → (e : Refusal) × (r ≡ Err e) × (first_of (either_fault T U ∷ other_symbols w T U ∷ Some (refusal_of_not_holder w claim) ∷ []) ≡ Some e) × (a' ≡ a)
+    by (Ok answer) is = absurd (some_found (either_fault T U) (other_symbols w T U) (refusal_of_not_holder w claim) (sym same ∙ is.0))
     by (Err e) is = (e, refl, sym same ∙ is.0, is.1)
 
 -- the stranger's refusal and the claim, which is handed back
-refused : {X S : Type 0} (w : Work) (n : Numbers) (claim : Lease S) (o : Option Refusal) (e : Refusal × Lease S) → o ≡ Some (stranger w n) → o ≡ Some e.0 → e.1 ≡ claim → ◌≡◌ {A = Result X (Refusal × Lease S)} (Err e) (Err (stranger w n, claim))
-refused {X} {S} w n claim o e so is back = let first : e.0 ≡ stranger w n = same_Some _ _ (sym is ∙ so) in λ i. Err (first i, back i)
+refused : {X S : Type 0} (w : View) (n : Numbers) (claim : Lease S) (o : Option Refusal) (e : Refusal × Lease S) → o ≡ Some (refusal_of_not_holder w n) → o ≡ Some e.0 → e.1 ≡ claim → ◌≡◌ {A = Result X (Refusal × Lease S)} (Err e) (Err (refusal_of_not_holder w n, claim))
+refused {X} {S} w n claim o e so is back = let first : e.0 ≡ refusal_of_not_holder w n = same_Some _ _ (sym is ∙ so) in λ i. Err (first i, back i)
 
-pub conclusion_of_stranger : ConclusionOfStranger
-unfolding ConclusionOfStranger
-conclusion_of_stranger a claim r a' is other = by r is
+pub conclusion_by_not_holder : ConclusionByNotHolder
+unfolding ConclusionByNotHolder
+conclusion_by_not_holder a claim r a' is other = by r is
   where
-    w : Work
-    w = said a
+    w : View
+    w = view a
 
-    so : claim_refusal w claim.numbers Conclude ≡ Some (stranger w claim.numbers)
+    so : claim_refusal w claim.numbers Conclude ≡ Some (refusal_of_not_holder w claim.numbers)
     so = claim_refused w claim.numbers Conclude other
 
-    by : (r : Result Concluded (Refusal × Lease Comparing)) → Conclusion a claim r a' → (r ≡ Err (stranger w claim.numbers, claim)) × (a' ≡ a)
+    by : (r : Result Concluded (Refusal × Lease Comparing)) → Conclusion a claim r a' → (r ≡ Err (refusal_of_not_holder w claim.numbers, claim)) × (a' ≡ a)
     by (Ok c) is = absurd (none-some _ (sym is.0 ∙ so))
     by (Err e) is = (refused w claim.numbers claim _ e so is.0 is.1, is.2)
 
-pub trail_of_stranger : TrailOfStranger
-unfolding TrailOfStranger
-trail_of_stranger a claim output r output' (v, trail, is) other = by r is
+pub trail_by_not_holder : TrailByNotHolder
+unfolding TrailByNotHolder
+trail_by_not_holder a claim output r output' (v, trail, is) other = by r is
   where
-    w : Work
-    w = said a
+    w : View
+    w = view a
 
-    so : trail_refusal w claim output v ≡ Some (stranger w claim)
+    so : trail_refusal w claim output v ≡ Some (refusal_of_not_holder w claim)
     so = ap (λ (o : Option Refusal). first_of (o ∷ no_room output v ∷ [])) (claim_refused w claim Write other)
 
-    by : (r : Result ℕ Refusal) → TrailAnswer w claim output v r output' → (r ≡ Err (stranger w claim)) × (output' ≡ output)
+    by : (r : Result ℕ Refusal) → TrailAnswer w claim output v r output' → (r ≡ Err (refusal_of_not_holder w claim)) × (output' ≡ output)
     by (Ok n) is = absurd (none-some _ (sym is.0 ∙ so))
     by (Err e) is = (ap Err (same_Some _ _ (sym is.0 ∙ so)), is.1)
 
-pub giving_up_of_stranger : GivingUpOfStranger
-unfolding GivingUpOfStranger
-giving_up_of_stranger a claim r a' is other = by r is
+pub giving_up_by_not_holder : GivingUpByNotHolder
+unfolding GivingUpByNotHolder
+giving_up_by_not_holder a claim r a' is other = by r is
   where
-    w : Work
-    w = said a
+    w : View
+    w = view a
 
     no : Result ℕ Refusal
-    no = Err (stranger w claim)
+    no = Err (refusal_of_not_holder w claim)
 
     given : (s h : Bool) (n : ℕ) (freed : Type 0) → (s && h) ≡ false → where_found (not s) w Foreign ≡ None → cond h freed ((n ≡ 0) × (a' ≡ a)) → (Ok n ≡ cond s (Ok 0) no) × (a' ≡ a)
     given true true n freed other near is = absurd (both_ways true other refl)

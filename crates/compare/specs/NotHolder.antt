@@ -14,47 +14,47 @@ use Rattle.compare.specs.Concluding.{Conclusion, GivingUp}
 use Rattle.compare.specs.Refusals.{other_symbols}
 use Rattle.compare.specs.Stepping.{Stepping}
 use Rattle.compare.specs.Trailing.{Trailing}
-use Rattle.compare.specs.Work.{Work, said, held_by}
+use Rattle.compare.specs.View.{View, view, held_by}
 
 -- the numbers are the holder's
-abbrev pub is_holder : Work → Numbers → Bool
+abbrev pub is_holder : View → Numbers → Bool
 is_holder w n = n.area == w.number && held_by w n.serial
 
 -- the refusal of numbers that are not the holder's: `foreign` where they are of another area, and else
 -- `ousted`
-abbrev pub stranger : Work → Numbers → Refusal
-stranger w n = record { fault = cond (n.area == w.number) Ousted Foreign; place = w.serial }
+abbrev pub refusal_of_not_holder : View → Numbers → Refusal
+refusal_of_not_holder w n = record { fault = cond (n.area == w.number) Ousted Foreign; place = w.serial }
 
 -- a step is refused: by a fault of the schemas, by `symbols`, or as a stranger's; the area stays as
 -- it was
-unfoldable pub StepOfStranger : Type 0
-StepOfStranger =
+unfoldable pub StepByNotHolder : Type 0
+StepByNotHolder =
     (T U : Tables) (sets others : List (ℕ → Bool)) (claim : Numbers) (n slots : ℕ)
     (a : Area) (r : Result (ℕ × ℕ) Refusal) (a' : Area)
-    → Stepping T U sets others claim n slots a r a' → is_holder (said a) claim ≡ false → (e : Refusal)
+    → Stepping T U sets others claim n slots a r a' → is_holder (view a) claim ≡ false → (e : Refusal)
     × (r ≡ Err e)
-    × (first_of (either_fault T U ∷ other_symbols (said a) T U ∷ Some (stranger (said a) claim) ∷ [])
+    × (first_of (either_fault T U ∷ other_symbols (view a) T U ∷ Some (refusal_of_not_holder (view a) claim) ∷ [])
     ≡ Some e)
     × (a' ≡ a)
 
 -- a conclusion is refused, and hands back the claim; the area stays as it was
-unfoldable pub ConclusionOfStranger : Type 0
-ConclusionOfStranger =
+unfoldable pub ConclusionByNotHolder : Type 0
+ConclusionByNotHolder =
     (a : Area) (claim : Lease Comparing) (r : Result Concluded (Refusal × Lease Comparing)) (a' : Area)
-    → Conclusion a claim r a' → is_holder (said a) claim.numbers ≡ false
-    → (r ≡ Err (stranger (said a) claim.numbers, claim)) × (a' ≡ a)
+    → Conclusion a claim r a' → is_holder (view a) claim.numbers ≡ false
+    → (r ≡ Err (refusal_of_not_holder (view a) claim.numbers, claim)) × (a' ≡ a)
 
 -- a trail is refused; the output stays as it was
-unfoldable pub TrailOfStranger : Type 0
-TrailOfStranger =
+unfoldable pub TrailByNotHolder : Type 0
+TrailByNotHolder =
     (a : Area) (claim : Numbers) (output : List ℕ) (r : Result ℕ Refusal) (output' : List ℕ)
-    → Trailing a claim output r output' → is_holder (said a) claim ≡ false
-    → (r ≡ Err (stranger (said a) claim)) × (output' ≡ output)
+    → Trailing a claim output r output' → is_holder (view a) claim ≡ false
+    → (r ≡ Err (refusal_of_not_holder (view a) claim)) × (output' ≡ output)
 
 -- giving up a claim of this area answers 0, and one of another area is refused; the area stays as
 -- it was
-unfoldable pub GivingUpOfStranger : Type 0
-GivingUpOfStranger =
+unfoldable pub GivingUpByNotHolder : Type 0
+GivingUpByNotHolder =
     (a : Area) (claim : Numbers) (r : Result ℕ Refusal) (a' : Area)
-    → GivingUp a claim r a' → is_holder (said a) claim ≡ false
-    → (r ≡ cond (claim.area == a.number) (Ok 0) (Err (stranger (said a) claim))) × (a' ≡ a)
+    → GivingUp a claim r a' → is_holder (view a) claim ≡ false
+    → (r ≡ cond (claim.area == a.number) (Ok 0) (Err (refusal_of_not_holder (view a) claim))) × (a' ≡ a)

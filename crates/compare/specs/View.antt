@@ -11,7 +11,7 @@ use Rattle.compare.specs.Pairs.{start}
 
 -- number and serial; the phase; the symbol count and the two state counts, as noted; the listed
 -- pairs, and how many are examined
-pub record Work : Type 0 where
+pub record View : Type 0 where
   pub number : ℕ
   pub serial : ℕ
   pub phase : Phase
@@ -22,8 +22,8 @@ pub record Work : Type 0 where
   pub examined : ℕ
 
 -- what is said of an area
-abbrev pub said : Area → Work
-said a = record {
+abbrev pub view : Area → View
+view a = record {
   number = a.number;
   serial = a.serial;
   phase = a.phase;
@@ -35,7 +35,7 @@ said a = record {
 }
 
 -- an area without a comparison: nothing is noted, listed or examined
-abbrev pub free : ℕ → ℕ → Work
+abbrev pub free : ℕ → ℕ → View
 free number serial = record {
   number = number;
   serial = serial;
@@ -50,7 +50,7 @@ free number serial = record {
 -- a comparison of two schemas begins: the serial is one higher, the counts are noted, nothing
 -- earlier stays; (0, 0) is listed where the first schema's state 0 is live, and otherwise the area
 -- is ready with included
-abbrev pub begun : Work → Tables → Tables → Bool → Work
+abbrev pub begun : View → Tables → Tables → Bool → View
 begun w T U live = record {
   number = w.number;
   serial = w.serial + 1;
@@ -63,7 +63,7 @@ begun w T U live = record {
 }
 
 -- the area with another phase
-abbrev pub in_phase : Work → Phase → Work
+abbrev pub in_phase : View → Phase → View
 in_phase w p = record w { phase = p }
 
 -- the area has no comparison
@@ -73,5 +73,5 @@ is_free p = false
 
 -- the claim with the serial, of this area, is the holder: there is a comparison, and the claim is
 -- of it
-abbrev pub held_by : Work → ℕ → Bool
+abbrev pub held_by : View → ℕ → Bool
 held_by w serial = not (is_free w.phase) && serial == w.serial
