@@ -94,14 +94,14 @@ module _ (A B : Automaton) where
         subst (λ (k : ℕ). Passed A B es k e) here (subst (Passed A B es w.examined) (same_Some _ _ (sym (told.further w.examined pair at) ∙ ap (slice_get es) here ∙ there)) passed_now))
         (cases_lt i w.examined)
 
-    grown_as : (p : Phase) → settled p (w.examined + 1) ≡ w.examined + 1 → Stands A B (examined_to w es p) p → Invariant A B (examined_to w es p)
-    grown_as p all stands = record { rooted = rooted_on; reached = told.reached; examined = λ i e early there. passed_on i e (subst (λ (n : ℕ). i < n) all early) there; stands = stands; ordered = told.ordered; led = led_on }
+    invariant_as : (p : Phase) → settled p (w.examined + 1) ≡ w.examined + 1 → Stands A B (examined_to w es p) p → Invariant A B (examined_to w es p)
+    invariant_as p all stands = record { rooted = rooted_on; reached = told.reached; examined = λ i e early there. passed_on i e (subst (λ (n : ℕ). i < n) all early) there; stands = stands; ordered = told.ordered; led = led_on }
 
     turn_unbroken : Invariant A B (examined_to w es (going_on (w.examined + 1) es))
     turn_unbroken =
         ⊎_elim
-        (λ done. subst (λ (p : Phase). Invariant A B (examined_to w es p)) (none_left (w.examined + 1) (length es) es refl done) (grown_as (phase.Ready verdict.Included) refl done))
-        (λ more. subst (λ (p : Phase). Invariant A B (examined_to w es p)) (one_left (w.examined + 1) (length es) es refl more) (grown_as phase.Running refl (left more)))
+        (λ done. subst (λ (p : Phase). Invariant A B (examined_to w es p)) (none_left (w.examined + 1) (length es) es refl done) (invariant_as (phase.Ready verdict.Included) refl done))
+        (λ more. subst (λ (p : Phase). Invariant A B (examined_to w es p)) (one_left (w.examined + 1) (length es) es refl more) (invariant_as phase.Running refl (left more)))
         (cases_eq (w.examined + 1) (length es))
       where
         left : (w.examined + 1 ≡ length es → ⊥) → w.examined + 1 < length es

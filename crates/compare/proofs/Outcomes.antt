@@ -17,7 +17,7 @@ use Rattle.compare.specs.View.{View, view, begun, free, in_phase, held_by}
 use Rattle.compare.proofs.Trails.{one_trail}
 use Rattle.compare.proofs.Views.{determined}
 
--- what is said of an area says all
+-- the view of an area says all
 pub view_determines : (a b : Area) → view a ≡ view b → a ≡ b
 view_determines a b same =
     let pairs : a.pairs ≡ b.pairs = determined a.pairs b.pairs (ap (λ (w : View). w.firsts) same) (ap (λ (w : View). w.seconds) same) (ap (λ (w : View). w.pairs) same) in

@@ -1,4 +1,4 @@
--- Each call has one outcome: what it does is said by what it is handed, a claim by its numbers.
+-- Each call has one outcome: what it does follows from what it is handed, a claim by its numbers.
 -- Assumes nothing.
 use Rattle.std.specs.Prelude.{◌≡◌, ℕ, Bool, ◌⊎◌, List, Ok, Err, Result}
 use Rattle.refusal.specs.declared.fault.Refusal.{Refusal}
@@ -38,7 +38,7 @@ SameConclusion (concluded.Included n) (concluded.Included m) = n ≡ m
 SameConclusion (concluded.Apart k n c) (concluded.Apart l m d) = (k ≡ l) × (n ≡ m) × SameClaim c d
 SameConclusion c d = ⊥
 
--- the same is said of two areas; or both are ready with apart, and differ at most in the kind: then
+-- two areas have one view; or both are ready with apart, and differ at most in the kind: then
 -- the pair examined last is broken in both ways
 abbrev pub ButForKind : Automaton → Automaton → View → View → Type 0
 ButForKind A B w v =

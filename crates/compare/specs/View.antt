@@ -1,4 +1,4 @@
--- What is said of a work area, and what begins and ends a comparison. Assumes nothing.
+-- The view of a work area, and what begins and ends a comparison. Assumes nothing.
 use Rattle.std.specs.Prelude.{ℕ, ◌+◌, Bool, true, false, cond, not, ◌&&◌, List, [], ◌∷◌, ◌==◌}
 use Rattle.schema.specs.Tables.{Tables}
 use Rattle.compare.specs.declared.area.Area.{Area}
@@ -21,7 +21,7 @@ pub record View : Type 0 where
   pub pairs : List Listed
   pub examined : ℕ
 
--- what is said of an area
+-- the view of an area
 abbrev pub view : Area → View
 view a = record {
   number = a.number;

@@ -18,8 +18,8 @@ use bits::sets::has_member;
 use refusal::fault::{Fault, Refusal};
 use schema::tested::Tested;
 
-/// A work area. What is said of it says all: nothing stays in it of an earlier comparison.
-// No model whose value is what is said: a refusal leaves the whole area as found, which contracts
+/// A work area. Its view says all: nothing stays in it of an earlier comparison.
+// No model whose value is the view: a refusal leaves the whole area as found, which contracts
 // say of the area itself, so both would be written.
 #[derive(Drop)]
 pub struct Area {

@@ -44,9 +44,7 @@ impl<D: Domain> Compared<'_, '_, '_, '_, D> {
     pub fn broken(&self, p: u8, q: u8, slots: &mut RowSlots) -> Option<Kind>
         ensures answer { StatePair self.now p q → MarksLive D.Domain.holds self.now →
             BrokenOrNot D.Domain.holds self.now p q result }
-        ensures order {
-            result ≡ Some Content → BrokenIn D.Domain.holds self.now Value p q → ⊥
-        }
+        ensures order { result ≡ Some Content → BrokenIn D.Domain.holds self.now Value p q → ⊥ }
         ensures laws { PairLaws }
     {
         if self.gap(p, q).is_some() {

@@ -13,7 +13,6 @@ use crate::pairs::{Listed, Pairs};
 use refusal::fault::{Fault, Refusal};
 
 /// The pair at an index, where the pair that led to it stands before it.
-// As `found_from` of the search, over pairs of another type: two calls of the library's each.
 pub fn led_to(pairs: &Pairs, index: usize) -> Option<Listed>
     ensures { result ≡ led_to (entries_of pairs.now) index }
 {
@@ -25,9 +24,7 @@ pub fn led_to(pairs: &Pairs, index: usize) -> Option<Listed>
 /// How many symbols the trail of a listed pair has.
 fn trail_length(pairs: &Pairs, index: usize) -> usize
     ensures most { result ≤ index }
-    ensures count {
-        (w : List ℕ) → Trail (entries_of pairs.now) index w → result ≡ length w
-    }
+    ensures count { (w : List ℕ) → Trail (entries_of pairs.now) index w → result ≡ length w }
 {
     match led_to(pairs, index) {
         Some(pair) => trail_length(pairs, pair.parent as usize) + 1,
@@ -61,8 +58,9 @@ pub(crate) fn broken_index(area: &Area) -> usize
     if last < area.pairs.length() { last } else { 0 }
 }
 
-/// Writes the symbols that lead from the pair (0, 0) to the broken pair at the output's front, a byte each, and tells how many. Or `foreign`,
-/// `ousted`, `early` or `room`. The claim comes back either way.
+/// Writes the symbols that lead from the pair (0, 0) to the broken pair at the output's front, a
+/// byte each, and tells how many. Or `foreign`, `ousted`, `early` or `room`. The claim comes back
+/// either way.
 #[tactic(auto, using(crate::proofs::Laws::trail_laws))]
 pub fn trail<S: ConcludedApart>(
     area: &Area,

@@ -62,7 +62,11 @@ impl Pairs {
         ensures answer { result ≡ slice_get (entries_of self.now) index }
         ensures laws { ListLaws }
     {
-        self.entries[..self.length].get(index).copied()
+        if index < self.length {
+            self.entries.get(index).copied()
+        } else {
+            None
+        }
     }
 
     /// Whether a pair with these two states is listed.
