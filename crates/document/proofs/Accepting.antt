@@ -1,4 +1,4 @@
--- Samples are accepted, and what is built along a way is accepted by the first automaton and refused by the second. Assumes nothing.
+-- What is built along a way is accepted by the first automaton and refused by the second. Assumes nothing.
 use Rattle.std.proofs.Common.{◌≡◌, ℕ, Bool, true, false, List, [], ◌∷◌, Some, sym, refl, ap, ◌∙◌, subst, ⊎_elim}
 use Rattle.std.proofs.lemmas.Bool.{and_parts, and_from, and_left, and_right, not-true}
 use Rattle.codec.specs.Trees.{Tree, node, Children, none, child, word}
@@ -6,20 +6,9 @@ use Rattle.schema.specs.Automata.{Automaton, passes, allowed, accepts, accepts_a
 use Rattle.compare.specs.declared.pairs.Listed.{Listed}
 use Rattle.compare.specs.declared.phase.Kind.{Kind}
 use Rattle.compare.specs.declared.phase.Kind.TheVariants.{Value, Content}
-use Rattle.document.specs.Samples.{Sample, Samples}
+use Rattle.samples.specs.Samples.{Sample, Samples}
+use Rattle.samples.proofs.Accepting.{samples_accepted}
 use Rattle.document.specs.Documents.{AtEnd, Built, GoesOn, LeadsTo, TellsApart}
-
-module _ (A : Automaton) where
-  mutual
-    -- a sample is accepted by its state
-    pub sample_accepted : (q : ℕ) (t : Tree) → Sample A q t → accepts A q t ≡ true
-    sample_accepted q (node v cs) s = and_from _ _ s.0.passes (and_from _ _ s.1.passes.0 (samples_accepted q cs s.2))
-
-    -- and so are children that are samples
-    pub samples_accepted : (q : ℕ) (cs : Children) → Samples A q cs → accepts_all A q cs ≡ true
-    samples_accepted q none s = refl
-    samples_accepted q (child a t cs) s =
-        and_from _ _ (subst (λ o. passes o (λ r. accepts A r t) ≡ true) (sym s.0.1) (sample_accepted s.0.0 t s.0.2)) (samples_accepted q cs s.1)
 
 -- what a next state says of a tree is said under the symbol that leads to it
 under : (A : Automaton) (p a b s : ℕ) (t : Tree) (says : Bool) → a ≡ b → A.next p b ≡ Some s → accepts A s t ≡ says → passes (A.next p a) (λ r. accepts A r t) ≡ says

@@ -20,16 +20,16 @@ use Rattle.compare.specs.declared.phase.Kind.{Kind}
 use Rattle.compare.specs.declared.phase.Kind.TheVariants.{Value, Content}
 use Rattle.compare.specs.Breaking.{Broken}
 use Rattle.compare.specs.Invariant.{StatePath, Reached}
-use Rattle.compare.specs.Trailing.{led_to, with_parent_before}
 use Rattle.compare.specs.Pairs.{start}
-use Rattle.compare.proofs.Trails.{one_trail, trail_parent}
-use Rattle.document.specs.Documents.{Climbs, OnWay, LeadsTo, Built, HasDocument}
+use Rattle.document.specs.Documents.{OnWay, LeadsTo, Built, HasDocument}
 use Rattle.document.specs.Forks.{joined}
-use Rattle.document.specs.Samples.{LowerSequence, SampleSequence, Sample}
-use Rattle.document.proofs.Growing.{LeadsLive, LeadsSampled, SampledChildren, gather, one_rank}
-use Rattle.document.proofs.Ranking.{LeadsLower}
+use Rattle.samples.specs.Samples.{LowerSequence, SampleSequence, Sample}
+use Rattle.samples.proofs.Growing.{LeadsLive, LeadsSampled, SampledChildren, gather, one_rank}
+use Rattle.samples.proofs.Ranking.{LeadsLower}
 use Rattle.document.proofs.Splitting.{end_with, fork_with, holds_none, joined_built, sides}
-use Rattle.document.proofs.Ways.{trail_way}
+use Rattle.search.specs.Paths.{PathBack}
+use Rattle.search.proofs.Paths.{found_there, one_word, word_parent}
+use Rattle.compare.specs.Listing.{pair_links}
 
 -- it can't be lacking
 abbrev Sure : Type 0 → Type 0
@@ -219,15 +219,15 @@ module _ (A B : Automaton) where
     -- from the pair that led to an entry
     leads_on : (i : ℕ) (e y : Listed) → slice_get es i ≡ Some e → e.parent < i → slice_get es e.parent ≡ Some y → LiveSymbol A y.first e.symbol × LeadsTo A B y.first y.second e
     leads_on i e y at before there =
-        let led : led_to es i ≡ Some e = ap (λ o. with_parent_before o i) at ∙ cond-true (ltb e.parent i) (Some e) None (lt-ltb e.parent i before) in
+        let led = found_there pair_links es i e at before in
         let r = reached i e at in
         let s = reached e.parent y there in
-        let v = trail_parent es i e led r.0 r.1 in
-        let long : r.0 ≡ s.0 ++ e.symbol ∷ [] = v.2 ∙ ap (λ (l : List ℕ). l ++ e.symbol ∷ []) (one_trail es e.parent v.0 s.0 v.1 s.1) in
+        let v = word_parent pair_links es i e led r.0 r.1 in
+        let long : r.0 ≡ s.0 ++ e.symbol ∷ [] = v.2 ∙ ap (λ (l : List ℕ). l ++ e.symbol ∷ []) (one_word pair_links es e.parent v.0 s.0 v.1 s.1) in
         let first = last_live s.0 0 e.symbol y.first e.first s.2 (subst (λ (l : List ℕ). LivePath A 0 l e.first) long r.2) in
         (first.0, (first.1, last_step s.0 0 e.symbol y.second e.second s.3 (subst (λ (l : List ℕ). StatePath B 0 l e.second) long r.3)))
 
-    along_climb : (back : List Listed) (i : ℕ) (x : Listed) → slice_get es i ≡ Some x → Climbs es i back → Along 0 0 (reverse back) x.first x.second
+    along_climb : (back : List Listed) (i : ℕ) (x : Listed) → slice_get es i ≡ Some x → PathBack pair_links es i back → Along 0 0 (reverse back) x.first x.second
     along_climb [] i x at first =
         let same : start ≡ x = same_Some _ _ (sym starts ∙ ap (slice_get es) (sym first) ∙ at) in
         (ap {B = ℕ} (λ (e : Listed). e.first) same, ap {B = ℕ} (λ (e : Listed). e.second) same)
@@ -279,8 +279,7 @@ module _ (A B : Automaton) where
 pub has_document : HasDocument
 unfolding HasDocument
 has_document A B k es i x values live starts reached at broken lacks =
-    let r = reached i x at in
-    let w = trail_way es i r.0 r.1 in
+    let w = (reached i x at).1 in
     let along : Along A B 0 0 w.0 x.first x.second = subst (λ (l : List Listed). Along A B 0 0 l x.first x.second) (reverse-reverse w.0) (along_climb A B es starts reached (reverse w.0) i x at w.1) in
     way_built A B values k 0 0 x.first x.second w.0 live along broken
     (λ t. lacks w.0 t.0 (record { first = start; listed = starts; starts = (refl, refl); leads = w.1; built = t.1 }))

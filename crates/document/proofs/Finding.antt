@@ -11,10 +11,11 @@ use Rattle.schema.proofs.Holding.{live_of_over, over_of_live}
 use Rattle.search.specs.Sequences.{First, Sought, Shortest}
 use Rattle.search.specs.Watching.{Watching, wanted}
 use Rattle.search.proofs.Orders.{first_alike}
-use Rattle.document.specs.declared.telling.Node.{Node}
+use Rattle.samples.specs.declared.node.Node.{Node}
+use Rattle.document.specs.declared.counterexample.TheConstants.{NODE_SYMBOLS}
 use Rattle.document.specs.Nodes.{Answered, LeastWith}
-use Rattle.document.specs.Samples.{SampleSequence}
-use Rattle.document.proofs.Growing.{sample_rank}
+use Rattle.samples.specs.Samples.{SampleSequence}
+use Rattle.samples.proofs.Growing.{sample_rank}
 
 -- the first of the live sequences that pass a test is the first of those with a property, where the test says which have it
 module _ (A : Automaton) (p : ℕ) (test : List ℕ → Bool) (P : List ℕ → Type 0) (says : (w : List ℕ) → Decides (test w) (P w)) where
@@ -28,7 +29,7 @@ module _ (A : Automaton) (p : ℕ) (test : List ℕ → Bool) (P : List ℕ → 
   first_tested = first_alike _ _ (λ w. ((alike w).1, (alike w).0))
 
   -- a node with one is a node with the other
-  pub answered : (o : Option Node) → Answered (LeastWith A p test) o → Answered (λ v w. Smallest (A.has p) (Some v) × First (λ u. LiveSequence A p u × P u) w) o
+  pub answered : (o : Option (Node NODE_SYMBOLS)) → Answered (LeastWith A p test) o → Answered (λ v w. Smallest (A.has p) (Some v) × First (λ u. LiveSequence A p u × P u) w) o
   answered (Some n) h = (h.0, first_with n.word h.1)
   answered None h = λ v w k. h v w (k.0, first_tested w k.1)
 

@@ -1,4 +1,4 @@
--- How many bytes trees, children and forks have, and counting them up to 65,537. Assumes nothing.
+-- How many bytes trees, children and forks have, and counting them up to TOO_LONG. Assumes nothing.
 use Rattle.std.proofs.Common.{◌≡◌, ℕ, ◌+◌, List, ◌∷◌, ◌++◌, length, min, ap, ◌∙◌, arith}
 use Rattle.std.proofs.lemmas.List.{length-append}
 use Rattle.codec.specs.Encoding.{tree_bytes, children_bytes}
@@ -7,24 +7,14 @@ use Rattle.codec.specs.Trees.{Tree, node, Children, child, word, many}
 use Rattle.schema.specs.Automata.{Automaton}
 use Rattle.compare.specs.declared.pairs.Listed.{Listed}
 use Rattle.document.specs.Forks.{Fork, joined, head, tail}
-use Rattle.document.specs.Seeds.{needed}
-use Rattle.document.proofs.Splitting.{joined_bytes, many_symbols}
+use Rattle.samples.specs.declared.size.TheConstants.{TOO_LONG}
+use Rattle.samples.specs.Kept.{needed}
+use Rattle.samples.proofs.Lengths.{length_three}
+use Rattle.document.proofs.Splitting.{joined_bytes}
 
--- what was counted up to 65,537 may be added to a number and counted again
-pub capped_right : (a b : ℕ) → min (a + min b 65537) 65537 ≡ min (a + b) 65537
+-- what was counted up to TOO_LONG may be added to a number and counted again
+pub capped_right : (a b : ℕ) → min (a + min b TOO_LONG) TOO_LONG ≡ min (a + b) TOO_LONG
 capped_right a b = omega arith
-
--- the length of three lists joined
-length_three : (x y z : List ℕ) → length (x ++ (y ++ z)) ≡ length x + (length y + length z)
-length_three x y z = omega (arith, length-append x (y ++ z), length-append y z)
-
--- a tree's bytes are its value's, its child count's and its children's
-pub tree_length : (v : ℕ) (cs : Children) → length (tree_bytes (node v cs)) ≡ length (number_bytes v) + (length (number_bytes (length (word cs))) + length (children_bytes cs))
-tree_length v cs = length_three (number_bytes v) (number_bytes (many cs)) (children_bytes cs) ∙ ap (λ (n : ℕ). length (number_bytes v) + (length (number_bytes n) + length (children_bytes cs))) (many_symbols cs)
-
--- children's bytes are the first one's symbol's and tree's, and those of the others
-pub child_length : (a : ℕ) (t : Tree) (cs : Children) → length (children_bytes (child a t cs)) ≡ length (number_bytes a) + (length (tree_bytes t) + length (children_bytes cs))
-child_length a t cs = length_three (number_bytes a) (tree_bytes t) (children_bytes cs)
 
 module _ (A B : Automaton) {p q : ℕ} {e : Listed} (f : Fork A B p q e) where
   -- the bytes of a fork but for the part: its value's, its child count's, those of the children before, of the symbol, and of the children
@@ -42,9 +32,9 @@ module _ (A B : Automaton) {p q : ℕ} {e : Listed} (f : Fork A B p q e) where
       by : (h t x : List ℕ) → length (h ++ (t ++ x)) ≡ length t + (length h + length x)
       by h t x = omega (arith, length_three h t x)
 
-  -- which holds too of what is counted up to 65,537
-  pub needed_joined : (part : Tree) → needed (joined A B f part) ≡ min (needed part + (length (head A B f) + length (tail A B f))) 65537
+  -- which holds too of what is counted up to TOO_LONG
+  pub needed_joined : (part : Tree) → needed (joined A B f part) ≡ min (needed part + (length (head A B f) + length (tail A B f))) TOO_LONG
   needed_joined part = by (length (tree_bytes (joined A B f part))) (length (tree_bytes part)) (length (head A B f) + length (tail A B f)) (joined_length part)
     where
-      by : (n m k : ℕ) → n ≡ m + k → min n 65537 ≡ min (min m 65537 + k) 65537
+      by : (n m k : ℕ) → n ≡ m + k → min n TOO_LONG ≡ min (min m TOO_LONG + k) TOO_LONG
       by n m k is = omega (arith, is)

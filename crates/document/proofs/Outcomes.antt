@@ -16,13 +16,14 @@ use Rattle.compare.specs.View.{View, view}
 use Rattle.compare.specs.Writing.{write_kept_from}
 use Rattle.compare.proofs.NotHolder.{found_within, found_third, some_found}
 use Rattle.compare.proofs.Tests.{held_refused}
-use Rattle.document.specs.Seeds.{needed}
+use Rattle.samples.specs.declared.size.TheConstants.{TOO_LONG}
+use Rattle.samples.specs.Kept.{needed}
 use Rattle.document.specs.Writing.{kept_from, early_refusal, Found, DocumentAnswer, OneDocumenting, DocumentOfStranger}
 use Rattle.document.proofs.Unique.{found_or_not, one_found}
 
 module _ (A B : Automaton) (w : View) (output : List ℕ) where
   -- a document that was written is none that is too long
-  not_both : (n : ℕ) (d f : Found A B w) → n ≡ length (tree_bytes d.tree) → n < 65537 → (n < length output + 1) → (length output < needed f.tree) ⊎ (needed f.tree ≡ 65537) → ⊥
+  not_both : (n : ℕ) (d f : Found A B w) → n ≡ length (tree_bytes d.tree) → n < TOO_LONG → (n < length output + 1) → (length output < needed f.tree) ⊎ (needed f.tree ≡ TOO_LONG) → ⊥
   not_both n d f long few fits too =
       let same : length (tree_bytes f.tree) ≡ length (tree_bytes d.tree) = ap (λ (t : Tree). length (tree_bytes t)) (one_found A B w f d) in
       ⊎_elim (λ short. omega (arith, short, long, few, fits, same)) (λ past. omega (arith, past, long, few, fits, same)) too
@@ -30,13 +31,13 @@ module _ (A B : Automaton) (w : View) (output : List ℕ) where
   one_answer : (r s : Result ℕ Refusal) (one other : List ℕ) → DocumentAnswer A B w output r one → DocumentAnswer A B w output s other → (r ≡ s) × (one ≡ other)
   one_answer (Ok n) (Ok m) one other p q =
       let same = one_found A B w p.0 q.0 in (
-        ap Ok (p.1 ∙ ap (λ (t : Tree). length (tree_bytes t)) same ∙ sym q.1),
-        p.4 ∙ ap (λ (t : Tree). overwritten output 0 (tree_bytes t)) same ∙ sym q.4,
+        ap Ok (p.1.0 ∙ ap (λ (t : Tree). length (tree_bytes t)) same ∙ sym q.1.0),
+        p.1.3 ∙ ap (λ (t : Tree). overwritten output 0 (tree_bytes t)) same ∙ sym q.1.3,
       )
   one_answer (Ok n) (Err e) one other p q =
-      absurd (⊎_elim (λ lacks. found_or_not A B w p.0 lacks.0) (λ too. not_both n p.0 too.0 p.1 (omega (arith, p.2)) (omega (arith, p.3)) too.1) q.0)
+      absurd (⊎_elim (λ lacks. found_or_not A B w p.0 lacks.0) (λ too. not_both n p.0 too.0 p.1.0 (omega (arith, p.1.1)) (omega (arith, p.1.2)) too.1.0) q.0)
   one_answer (Err e) (Ok m) one other p q =
-      absurd (⊎_elim (λ lacks. found_or_not A B w q.0 lacks.0) (λ too. not_both m q.0 too.0 q.1 (omega (arith, q.2)) (omega (arith, q.3)) too.1) p.0)
+      absurd (⊎_elim (λ lacks. found_or_not A B w q.0 lacks.0) (λ too. not_both m q.0 too.0 q.1.0 (omega (arith, q.1.1)) (omega (arith, q.1.2)) too.1.0) p.0)
   one_answer (Err e) (Err f) one other p q = (ap Err by, p.1 ∙ sym q.1)
     where
       by : e ≡ f
@@ -46,7 +47,7 @@ module _ (A B : Automaton) (w : View) (output : List ℕ) where
           (λ too.
           ⊎_elim
           (λ lacks. absurd (found_or_not A B w too.0 lacks.0))
-          (λ too'. too.2 ∙ ap (λ (t : Tree). record { fault = Room; place = needed t }) (one_found A B w too.0 too'.0) ∙ sym too'.2)
+          (λ too'. too.1.1 ∙ ap (λ (t : Tree). record { fault = Room; place = needed t }) (one_found A B w too.0 too'.0) ∙ sym too'.1.1)
           q.0)
           p.0
 

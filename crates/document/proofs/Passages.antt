@@ -1,64 +1,69 @@
 -- What is written of a node on the way: its parts one behind the other are the bytes of its fork. Assumes nothing.
 use Rattle.std.proofs.Common.{◌≡◌, ℕ, ◌+◌, ◌<◌, ◌≤◌, Bool, List, ◌∷◌, ◌++◌, length, Some, None, Option, sym, ap, ◌∙◌, subst, append_assoc, arith}
+use Rattle.std.specs.List.{slice_get}
 use Rattle.codec.specs.declared.item.Level.{Level}
 use Rattle.codec.specs.Encoding.{children_bytes}
 use Rattle.codec.specs.Numbers.{number_bytes}
 use Rattle.codec.specs.Piles.{Stack}
 use Rattle.codec.specs.Trees.{Children, word, heights}
-use Rattle.domain.specs.Sets.{alone}
 use Rattle.schema.specs.Automata.{Automaton}
-use Rattle.schema.specs.Tables.{tables, sets}
-use Rattle.schema.proofs.Sizes.{sized}
-use Rattle.schema.proofs.Sound.{sound}
+use Rattle.schema.specs.declared.tables.TheConstants.{STATES}
+use Rattle.schema.specs.Meaning.{meaning, states_of, IsState}
 use Rattle.search.specs.Watching.{Holds}
-use Rattle.search.proofs.Orders.{one_first}
 use Rattle.compare.specs.declared.pairs.Listed.{Listed}
-use Rattle.compare.specs.declared.phase.Kind.{Kind}
-use Rattle.compare.specs.declared.phase.Kind.TheVariants.{Value, Content}
-use Rattle.document.specs.declared.level.Spot.{Spot}
-use Rattle.document.specs.declared.sheet.Sheet.{Sheet}
-use Rattle.document.specs.declared.telling.Telling.{Telling}
+use Rattle.compare.specs.Listing.{entries_of}
+use Rattle.compare.specs.Schemas.{StatePair}
+use Rattle.compare.proofs.Views.{entries_fit}
+use Rattle.samples.specs.declared.node.NodeKey.{NodeKey}
+use Rattle.samples.specs.declared.output.Output.{Output}
+use Rattle.document.specs.declared.counterexample.Counterexample.{Counterexample}
 use Rattle.document.specs.declared.write.Passage.{Passage}
-use Rattle.document.specs.Documents.{AtEnd}
 use Rattle.document.specs.Forks.{Fork, head}
-use Rattle.document.specs.Nodes.{Ready, first_automaton}
+use Rattle.document.specs.Nodes.{Ready}
+use Rattle.document.specs.Steps.{PathStep}
 use Rattle.document.specs.Passing.{passage_of}
-use Rattle.document.specs.Samples.{Samples}
-use Rattle.document.specs.Sampling.{Leaves}
-use Rattle.document.specs.Sheets.{Added, Adds}
-use Rattle.document.proofs.Growing.{Inside}
-use Rattle.document.proofs.Heights.{samples_height}
+use Rattle.samples.specs.Samples.{Samples}
+use Rattle.samples.specs.Writing.{Leaves}
+use Rattle.samples.specs.Outputs.{Added, Adds}
+use Rattle.samples.proofs.Heights.{samples_height}
 use Rattle.document.proofs.Places.{fork_sides}
-use Rattle.document.proofs.Sheets.{added_more, adds_more, crowded_more, crowded_front}
-use Rattle.document.proofs.Sizing.{kept_seeded}
-use Rattle.document.proofs.Unique.{one_smallest}
+use Rattle.samples.proofs.Outputs.{added_more, adds_more, crowded_more, crowded_front}
+use Rattle.samples.proofs.Tested.{few_states, next_inside}
+use Rattle.samples.proofs.Sizing.{kept_rooted}
 
-module _ {D : Type 0} (holds : D → ℕ → Bool) (t : Telling D) where
-  -- the first schema leads to its own states only
-  pub states_inside : Inside (first_automaton holds t) t.samples.tested.now.measured.schema.states
-  states_inside = (sound (tables t.samples.tested.now.measured.schema) (sets holds t.samples.tested.now.measured.schema) t.samples.tested.now.sound).next_in
+module _ {D : Type 0} (holds : D → ℕ → Bool) (c : Counterexample D) (ready : Ready holds c) where
+  -- children that are samples need no more than STATES levels
+  pub children_fit : (p : ℕ) (cs : Children) → IsState c.compared.first.now p → Samples (meaning holds c.compared.first.now) p cs → heights cs ≤ STATES
+  children_fit p cs low s =
+      let t = c.compared.first.now in
+      omega (arith, few_states t, samples_height (meaning holds t) (states_of t) (next_inside holds t) (kept_rooted (meaning holds t) (states_of t) c.samples ready.samples) p cs low s)
 
-  -- children that are samples need no more than 64 levels
-  pub children_fit : Ready holds t → (p : ℕ) (cs : Children) → p < t.samples.tested.now.measured.schema.states → Samples (first_automaton holds t) p cs → heights cs ≤ 64
-  children_fit ready p cs low s =
-      let schema = t.samples.tested.now.measured.schema in
-      let few : schema.states ≤ 64 = (sized (tables schema) t.samples.tested.now.measured.sized).states.to in
-      omega (arith, few, samples_height (first_automaton holds t) schema.states states_inside (kept_seeded (first_automaton holds t) schema.states t.samples.live t.samples.seeds t.samples.sizes ready.samples) p cs low s)
+  -- listed pairs are of states of the two schemas
+  pub states_listed : (i : ℕ) (e : Listed) → slice_get (entries_of c.pairs.now) i ≡ Some e → StatePair c.compared e.first e.second
+  states_listed i e there =
+      let fit = entries_fit c.pairs.now i e there in
+      (subst (λ (n : ℕ). e.first < n) ready.inside.firsts fit.first_inside, subst (λ (n : ℕ). e.second < n) ready.inside.seconds fit.second_inside)
 
 -- bytes added, with the levels as they are
-pub leaves_adds : (bytes : List ℕ) (entries : List (Level Spot)) (before after : Sheet) (r : Option (Unit {0})) (levels : Stack (Level Spot)) → Adds bytes before r after → levels.entries ≡ entries → Leaves bytes entries before r levels after
+pub leaves_adds : (bytes : List ℕ) (entries : List (Level NodeKey)) (before after : Output) (r : Option (Unit {0})) (levels : Stack (Level NodeKey)) → Adds bytes before r after → levels.entries ≡ entries → Leaves bytes entries before r levels after
 leaves_adds bytes entries before after (Some u) levels added same = (added, same)
 leaves_adds bytes entries before after None levels short same = short
 
-module _ (A B : Automaton) (p q : ℕ) (e : Listed) (f : Fork A B p q e) where
+module _ {A B : Automaton} {es : List Listed} (p : PathStep A B es) where
+  abbrev e : Listed
+  e = p.pair
+
+  abbrev f : Fork A B p.from.first p.from.second e
+  f = p.fork
+
   -- the symbols on both sides of the first such symbol are those of the children before and after
-  pub sides : (s : Passage) → s ≡ passage_of f → (u x : List ℕ) → s.node.word ≡ u ++ s.symbol ∷ x → (Holds s.symbol u → ⊥) → (word f.before ≡ u) × (word f.after ≡ x)
+  pub sides : (s : Passage) → s ≡ passage_of p → (u x : List ℕ) → s.node.word ≡ u ++ s.symbol ∷ x → (Holds s.symbol u → ⊥) → (word f.before ≡ u) × (word f.after ≡ x)
   sides s is u x parts lacks =
       let symbol : s.symbol ≡ e.symbol = ap (λ (r : Passage). r.symbol) is in
       let whole : s.node.word ≡ word f.before ++ e.symbol ∷ word f.after = ap (λ (r : Passage). r.node.word) is in
       fork_sides A B f f.value (word f.before ++ e.symbol ∷ word f.after) f.on_way u x (sym whole ∙ parts ∙ ap (λ (a : ℕ). u ++ a ∷ x) symbol) (λ h. lacks (subst (λ (a : ℕ). Holds a u) (sym symbol) h))
 
-  module _ (s : Passage) (is : s ≡ passage_of f) (count : ℕ) (counted : count ≡ length s.node.word) where
+  module _ (s : Passage) (is : s ≡ passage_of p) (count : ℕ) (counted : count ≡ length s.node.word) where
     abbrev pub value_count : List ℕ
     value_count = number_bytes s.node.value ++ number_bytes count
 
@@ -72,20 +77,15 @@ module _ (A B : Automaton) (p q : ℕ) (e : Listed) (f : Fork A B p q e) where
         regroup : (v n cs a : List ℕ) → ((v ++ n) ++ cs) ++ a ≡ v ++ (n ++ (cs ++ a))
         regroup v n cs a = simp append_assoc
 
-    module _ (before first : Sheet) (begun : Added value_count before first) where
+    module _ (before first : Output) (begun : Added value_count before first) where
       -- they are written one behind the other
-      pub all_before : (second after : Sheet) (r : Option (Unit {0})) → Added (children_bytes f.before) first second → Adds (number_bytes s.symbol) second r after → Adds (head A B f) before r after
+      pub all_before : (second after : Output) (r : Option (Unit {0})) → Added (children_bytes f.before) first second → Adds (number_bytes s.symbol) second r after → Adds (head A B f) before r after
       all_before second after r children symbol =
           subst (λ (l : List ℕ). Adds l before r after) parts
           (adds_more (value_count ++ children_bytes f.before) (number_bytes s.symbol) before second (added_more value_count (children_bytes f.before) before first begun second children) r after symbol)
 
       -- or the children have no room
-      pub crowded_children : length first.output.now < first.place + length (children_bytes f.before) → length before.output.now < before.place + length (head A B f)
+      pub crowded_children : length first.bytes.now < first.place + length (children_bytes f.before) → length before.bytes.now < before.place + length (head A B f)
       crowded_children short =
-          subst (λ (l : List ℕ). length before.output.now < before.place + length l) parts
+          subst (λ (l : List ℕ). length before.bytes.now < before.place + length l) parts
           (crowded_front (value_count ++ children_bytes f.before) (number_bytes s.symbol) before (crowded_more value_count (children_bytes f.before) before first begun short))
-
--- the value and the sequence of the node at the end are one
-pub one_at_end : (A B : Automaton) (k : Kind) (p q v w : ℕ) (x y : List ℕ) → AtEnd A B k p q v x → AtEnd A B k p q w y → (v ≡ w) × (x ≡ y)
-one_at_end A B Value p q v w x y s r = (one_smallest (alone (A.has p) (B.has q)) v w s.0 r.0, one_first _ x y s.1 r.1)
-one_at_end A B Content p q v w x y s r = (one_smallest (A.has p) v w s.0 r.0, one_first _ x y s.1 r.1)

@@ -7,7 +7,8 @@ use Rattle.compare.specs.declared.pairs.Listed.{Listed}
 use Rattle.document.specs.Documents.{OnWay}
 use Rattle.document.specs.Forks.{Fork}
 use Rattle.document.proofs.Splitting.{holds_here, holds_later}
-use Rattle.document.proofs.Unique.{one_on_way, one_samples}
+use Rattle.samples.proofs.Unique.{one_samples}
+use Rattle.document.proofs.Unique.{one_on_way}
 
 -- there is one way to part a sequence at the first such symbol
 pub one_parting : (a : ℕ) (u x v y : List ℕ) → (Holds a u → ⊥) → (Holds a v → ⊥) → u ++ a ∷ x ≡ v ++ a ∷ y → (u ≡ v) × (x ≡ y)

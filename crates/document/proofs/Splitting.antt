@@ -13,20 +13,16 @@ use Rattle.compare.specs.declared.phase.Kind.{Kind}
 use Rattle.compare.specs.declared.phase.Kind.TheVariants.{Value, Content}
 use Rattle.document.specs.Documents.{AtEnd, OnWay, LeadsTo, Built, GoesOn}
 use Rattle.document.specs.Forks.{followed_by, Fork, joined, head, tail, Split}
-use Rattle.document.specs.Samples.{Samples}
-use Rattle.document.proofs.Growing.{Inside, HaveSeeds, LeadsLive, SampledChildren, sampled_children, live_children, sample_children}
+use Rattle.samples.specs.Samples.{Samples}
+use Rattle.samples.proofs.Lengths.{many_symbols}
+use Rattle.samples.proofs.Growing.{Inside, HaveRoots, LeadsLive, SampledChildren, sampled_children, live_children, sample_children}
 
 -- the symbols of children with others after them
 pub word_followed : (cs ds : Children) → word (followed_by cs ds) ≡ word cs ++ word ds
 word_followed none ds = refl
 word_followed (child a t cs) ds = ap (λ (w : List ℕ). a ∷ w) (word_followed cs ds)
 
--- there are as many children as symbols
-pub many_symbols : (cs : Children) → many cs ≡ length (word cs)
-many_symbols none = refl
-many_symbols (child a t cs) = omega (arith, many_symbols cs)
-
--- their bytes
+-- and their bytes
 pub bytes_followed : (cs ds : Children) → children_bytes (followed_by cs ds) ≡ children_bytes cs ++ children_bytes ds
 bytes_followed none ds = refl
 bytes_followed (child a t cs) ds =
@@ -176,10 +172,10 @@ module _ (A B : Automaton) (p q : ℕ) (e : Listed) (v : ℕ) (u x : List ℕ) (
       }
 
   -- and where each live state has what its sample begins with
-  pub fork_of : (n : ℕ) → Inside A n → HaveSeeds A n → p < n → Forked A B p q e v u x
-  fork_of n inside seeded low =
+  pub fork_of : (n : ℕ) → Inside A n → HaveRoots A n → p < n → Forked A B p q e v u x
+  fork_of n inside rooted low =
       let both = sides A p e.symbol u x on_way.1.passes.0.1 in
-      fork_with (sampled_children A n inside seeded p u low both.0) (sampled_children A n inside seeded p x low both.1)
+      fork_with (sampled_children A n inside rooted p u low both.0) (sampled_children A n inside rooted p x low both.1)
 
 module _ (A B : Automaton) (k : Kind) (p q v : ℕ) (w : List ℕ) where
   -- with the end's children there is the end's tree
@@ -187,6 +183,6 @@ module _ (A B : Automaton) (k : Kind) (p q v : ℕ) (w : List ℕ) where
   end_with end cs = (subst (AtEnd A B k p q v) (sym cs.1) end, cs.2)
 
 -- which the end has, where each live state has what its sample begins with
-pub end_children : (A B : Automaton) (n : ℕ) → Inside A n → HaveSeeds A n → (k : Kind) (p q v : ℕ) (w : List ℕ) → p < n → AtEnd A B k p q v w → SampledChildren A p w
-end_children A B n inside seeded Value p q v w low end = sample_children A n inside seeded p w low end.1
-end_children A B n inside seeded Content p q v w low end = live_children A n inside seeded p w low end.1.passes.0
+pub end_children : (A B : Automaton) (n : ℕ) → Inside A n → HaveRoots A n → (k : Kind) (p q v : ℕ) (w : List ℕ) → p < n → AtEnd A B k p q v w → SampledChildren A p w
+end_children A B n inside rooted Value p q v w low end = sample_children A n inside rooted p w low end.1
+end_children A B n inside rooted Content p q v w low end = live_children A n inside rooted p w low end.1.passes.0

@@ -10,37 +10,40 @@ use Rattle.codec.specs.Trees.{node, Children, word}
 use Rattle.schema.specs.Automata.{Automaton}
 use Rattle.compare.specs.declared.pairs.Listed.{Listed}
 use Rattle.compare.specs.Trailing.{led_to}
-use Rattle.compare.proofs.Trails.{led_some}
-use Rattle.document.specs.Forks.{Fork, head, tail}
-use Rattle.document.specs.Marks.{LedFrom, StepsUp}
-use Rattle.document.specs.Seeds.{needed}
-use Rattle.document.proofs.Lengths.{tree_length, fork_length}
+use Rattle.search.proofs.Paths.{found_some}
+use Rattle.compare.specs.Listing.{pair_links}
+use Rattle.document.specs.Forks.{Fork, fork_bytes, head, tail}
+use Rattle.document.specs.Steps.{LedFrom, StepsBack}
+use Rattle.samples.specs.declared.size.TheConstants.{TOO_LONG}
+use Rattle.samples.specs.Kept.{needed}
+use Rattle.samples.proofs.Lengths.{tree_length}
+use Rattle.document.proofs.Lengths.{fork_length}
 
 -- what a comparison with a number says of what is there
 pub same_number : (o : Option ℕ) (x : ℕ) (b : Bool) → b ≡ option_eq eqb o (Some x) → Decides b (o ≡ Some x)
 same_number None x b is = (λ yes. absurd (both_ways b is yes), λ there. absurd (none-some _ there))
 same_number (Some y) x b is = (λ yes. ap Some (eqb-true y x (sym is ∙ yes)), λ there. is ∙ eq-eqb y x (same_Some _ _ there))
 
--- the bytes of a node with its children, counted up to 65,537
-pub end_sum : (v : ℕ) (cs : Children) (a b c r : ℕ) → a ≡ length (number_bytes v) → b ≡ length (number_bytes (length (word cs))) → c ≡ min (length (children_bytes cs)) 65537 → r ≡ min (a + b + c) 65537 → r ≡ needed (node v cs)
+-- the bytes of a node with its children, counted up to TOO_LONG
+pub end_sum : (v : ℕ) (cs : Children) (a b c r : ℕ) → a ≡ length (number_bytes v) → b ≡ length (number_bytes (length (word cs))) → c ≡ min (length (children_bytes cs)) TOO_LONG → r ≡ min (a + b + c) TOO_LONG → r ≡ needed (node v cs)
 end_sum v cs = by (length (tree_bytes (node v cs))) (length (number_bytes v)) (length (number_bytes (length (word cs)))) (length (children_bytes cs)) (tree_length v cs)
   where
-    by : (n x y z : ℕ) → n ≡ x + (y + z) → (a b c r : ℕ) → a ≡ x → b ≡ y → c ≡ min z 65537 → r ≡ min (a + b + c) 65537 → r ≡ min n 65537
+    by : (n x y z : ℕ) → n ≡ x + (y + z) → (a b c r : ℕ) → a ≡ x → b ≡ y → c ≡ min z TOO_LONG → r ≡ min (a + b + c) TOO_LONG → r ≡ min n TOO_LONG
     by n x y z is a b c r p q s t = omega (arith, is, p, q, s, t)
 
 module _ (A B : Automaton) {p q : ℕ} {e : Listed} (f : Fork A B p q e) where
-  -- the bytes of a fork but for its part, counted up to 65,537
-  pub fork_sum : (a b c d x r : ℕ) → a ≡ length (number_bytes f.value) → b ≡ length (number_bytes (length (word f.before ++ e.symbol ∷ word f.after))) → c ≡ length (number_bytes e.symbol) → d ≡ min (length (children_bytes f.before)) 65537 → x ≡ min (length (children_bytes f.after)) 65537 → r ≡ min (a + b + c + min (d + x) 65537) 65537 → r ≡ min (length (head A B f) + length (tail A B f)) 65537
+  -- the bytes of a fork but for its part, counted up to TOO_LONG
+  pub fork_sum : (a b c d x r : ℕ) → a ≡ length (number_bytes f.value) → b ≡ length (number_bytes (length (word f.before ++ e.symbol ∷ word f.after))) → c ≡ length (number_bytes e.symbol) → d ≡ min (length (children_bytes f.before)) TOO_LONG → x ≡ min (length (children_bytes f.after)) TOO_LONG → r ≡ min (a + b + c + min (d + x) TOO_LONG) TOO_LONG → r ≡ fork_bytes A B f
   fork_sum = by (length (head A B f) + length (tail A B f)) (length (number_bytes f.value)) (length (number_bytes (length (word f.before ++ e.symbol ∷ word f.after)))) (length (children_bytes f.before)) (length (number_bytes e.symbol)) (length (children_bytes f.after)) (fork_length A B f)
     where
-      by : (n v m y s z : ℕ) → n ≡ v + (m + (y + (s + z))) → (a b c d x r : ℕ) → a ≡ v → b ≡ m → c ≡ s → d ≡ min y 65537 → x ≡ min z 65537 → r ≡ min (a + b + c + min (d + x) 65537) 65537 → r ≡ min n 65537
+      by : (n v m y s z : ℕ) → n ≡ v + (m + (y + (s + z))) → (a b c d x r : ℕ) → a ≡ v → b ≡ m → c ≡ s → d ≡ min y TOO_LONG → x ≡ min z TOO_LONG → r ≡ min (a + b + c + min (d + x) TOO_LONG) TOO_LONG → r ≡ min n TOO_LONG
       by n v m y s z is a b c d x r p q t u w o = omega (arith, is, p, q, t, u, w, o)
 
 module _ (es : List Listed) (i at : ℕ) (pair from : Listed) (led : Some pair ≡ led_to es i) (up : at ≡ pair.parent) (there : Some from ≡ slice_get es at) where
   -- the pair was led to
   pub led_from : LedFrom es i pair from
   led_from =
-      let found = led_some es i pair (sym led) in
+      let found = found_some pair_links es i pair (sym led) in
       record { there = found.0; before = found.1; parent = ap (slice_get es) (sym up) ∙ sym there }
 
   -- and by no other
@@ -50,7 +53,7 @@ module _ (es : List Listed) (i at : ℕ) (pair from : Listed) (led : Some pair �
       (same, same_Some _ _ (sym led_from.parent ∙ ap (λ (y : Listed). slice_get es y.parent) same ∙ l.parent))
 
   -- where no node goes on from there to the pair, there is no step
-  pub no_step : (A B : Automaton) → (Fork A B from.first from.second pair → ⊥) → StepsUp A B es i None
+  pub no_step : (A B : Automaton) → (Fork A B from.first from.second pair → ⊥) → StepsBack A B es i None
   no_step A B none e x l f =
       let o = only_led e x l in
       none (subst (λ (y : Listed). Fork A B y.first y.second pair) (sym o.1) (subst (λ (y : Listed). Fork A B x.first x.second y) (sym o.0) f))

@@ -1,10 +1,11 @@
 -- Documents: the tree that tells two automata apart, built along the trail to a broken pair. Assumes nothing.
-use Rattle.std.specs.Prelude.{◌≡◌, ℕ, ◌^◌, ◌<◌, true, false, ◌⊎◌, List, [], ◌∷◌, map, reverse, Some}
+use Rattle.std.specs.Prelude.{◌≡◌, ℕ, ◌^◌, ◌<◌, true, false, ◌⊎◌, List, [], ◌∷◌, Some}
 use Rattle.std.specs.List.{slice_get}
 use Rattle.codec.specs.Trees.{Tree, node, Children, none, child, word}
 use Rattle.domain.specs.Sets.{Smallest, alone}
 use Rattle.schema.specs.Automata.{Automaton, allowed, accepts}
 use Rattle.schema.specs.Live.{Live, LiveSequence}
+use Rattle.search.specs.Paths.{Path, word_of}
 use Rattle.search.specs.Sequences.{First}
 use Rattle.search.specs.Watching.{Holds}
 use Rattle.compare.specs.declared.pairs.Listed.{Listed}
@@ -12,21 +13,17 @@ use Rattle.compare.specs.declared.phase.Kind.{Kind}
 use Rattle.compare.specs.declared.phase.Kind.TheVariants.{Value, Content}
 use Rattle.compare.specs.Breaking.{Broken}
 use Rattle.compare.specs.Invariant.{Reached}
+use Rattle.compare.specs.Listing.{pair_links}
 use Rattle.compare.specs.Pairs.{start}
-use Rattle.document.specs.Samples.{SampleSequence, Samples}
+use Rattle.samples.specs.Samples.{SampleSequence, Samples}
 
--- from an entry along its parents to the first one: the entries on the way but for the first, the last one first
-abbrev pub Climbs : List Listed → ℕ → List Listed → Type 0
-Climbs es i [] = i ≡ 0
-Climbs es i (e ∷ way) = (slice_get es i ≡ Some e) × (e.parent < i) × Climbs es e.parent way
+-- the path from the first entry to entry i: the entries on it but for the first, in order
+abbrev pub PairPath : List Listed → ℕ → List Listed → Type 0
+PairPath = Path pair_links
 
--- the way from the first entry to entry i: the entries on it but for the first, in order
-abbrev pub Way : List Listed → ℕ → List Listed → Type 0
-Way es i way = Climbs es i (reverse way)
-
--- the symbols of a way
-abbrev pub symbols_of : List Listed → List ℕ
-symbols_of way = map (λ (e : Listed). e.symbol) way
+-- the symbols of a path
+abbrev pub path_word : List Listed → List ℕ
+path_word = word_of pair_links
 
 module _ (A B : Automaton) where
   -- the value and the children's symbols at the end, a pair broken in value or in content: the smallest value in the first state's domain
@@ -55,26 +52,35 @@ module _ (A B : Automaton) where
     -- the first child under the symbol goes on
     pub GoesOn : Kind → ℕ → Listed → List Listed → Children → Type 0
     GoesOn k p e way none = ⊥
-    GoesOn k p e way (child a t cs) = ((a ≡ e.symbol) × Built k e.first e.second way t × Samples A p cs) ⊎ ((a ≡ e.symbol → ⊥) × Samples A p (child a t none) × GoesOn k p e way cs)
+    GoesOn k p e way (child a t cs) =
+        ((a ≡ e.symbol) × Built k e.first e.second way t × Samples A p cs)
+        ⊎ ((a ≡ e.symbol → ⊥) × Samples A p (child a t none) × GoesOn k p e way cs)
 
   -- the document of a list of pairs, for entry i broken in a kind: it is built along the way from the first entry, which is the pair (0, 0)
   pub record DocumentOf (k : Kind) (es : List Listed) (i : ℕ) (way : List Listed) (t : Tree) : Type 0 where
     pub first : Listed
     pub listed : slice_get es 0 ≡ Some first
     pub starts : (first.first ≡ 0) × (first.second ≡ 0)
-    pub leads : Way es i way
+    pub leads : PairPath es i way
     pub built : Built k 0 0 way t
 
 -- a document is accepted by the first automaton, and not by the second
 unfoldable pub TellsApart : Type 0
-TellsApart = (A B : Automaton) (k : Kind) (es : List Listed) (i : ℕ) (way : List Listed) (t : Tree) → DocumentOf A B k es i way t → (accepts A 0 t ≡ true) × (accepts B 0 t ≡ false)
+TellsApart =
+    (A B : Automaton) (k : Kind) (es : List Listed) (i : ℕ) (path : List Listed) (t : Tree) → DocumentOf A B k es i path t
+    → (accepts A 0 t ≡ true) × (accepts B 0 t ≡ false)
 
--- there is one document and one way to it at most
+-- there is one document and one path to it at most
 unfoldable pub OneDocument : Type 0
-OneDocument = (A B : Automaton) (k : Kind) (es : List Listed) (i : ℕ) (v w : List Listed) (t u : Tree) → DocumentOf A B k es i v t → DocumentOf A B k es i w u → (v ≡ w) × (t ≡ u)
+OneDocument =
+    (A B : Automaton) (k : Kind) (es : List Listed) (i : ℕ) (v w : List Listed) (t u : Tree)
+    → DocumentOf A B k es i v t → DocumentOf A B k es i w u → (v ≡ w) × (t ≡ u)
 
 -- where (0, 0) is listed first, its first state is live, and each listed pair is reached by live symbols, a broken pair has a document: it
 -- can't be that there is none. Values are numbers below 2 ^ 32
 unfoldable pub HasDocument : Type 0
 HasDocument =
-    (A B : Automaton) (k : Kind) (es : List Listed) (i : ℕ) (x : Listed) → ((q v : ℕ) → A.has q v ≡ true → v < 2 ^ 32) → Live A 0 → slice_get es 0 ≡ Some start → Reached A B es → slice_get es i ≡ Some x → Broken A B k x.first x.second → ((way : List Listed) (t : Tree) → DocumentOf A B k es i way t → ⊥) → ⊥
+    (A B : Automaton) (k : Kind) (es : List Listed) (i : ℕ) (x : Listed)
+    → ((q v : ℕ) → A.has q v ≡ true → v < 2 ^ 32) → Live A 0 → slice_get es 0 ≡ Some start → Reached A B es
+    → slice_get es i ≡ Some x → Broken A B k x.first x.second
+    → ((path : List Listed) (t : Tree) → DocumentOf A B k es i path t → ⊥) → ⊥

@@ -1,7 +1,6 @@
 -- Forks: nodes on the way before its end, where one child goes on and the others are samples; and the bytes around that child. Assumes
 -- nothing.
-use Rattle.std.specs.Prelude.{◌≡◌, ℕ, List, [], ◌∷◌, ◌++◌, length, Some}
-use Rattle.std.specs.List.{slice_get}
+use Rattle.std.specs.Prelude.{◌≡◌, ℕ, ◌+◌, List, ◌∷◌, ◌++◌, length, min}
 use Rattle.codec.specs.Encoding.{children_bytes}
 use Rattle.codec.specs.Numbers.{number_bytes}
 use Rattle.codec.specs.Trees.{Tree, node, Children, none, child, word}
@@ -10,7 +9,8 @@ use Rattle.search.specs.Watching.{Holds}
 use Rattle.compare.specs.declared.pairs.Listed.{Listed}
 use Rattle.compare.specs.declared.phase.Kind.{Kind}
 use Rattle.document.specs.Documents.{OnWay, LeadsTo, Built}
-use Rattle.document.specs.Samples.{Samples}
+use Rattle.samples.specs.declared.size.TheConstants.{TOO_LONG}
+use Rattle.samples.specs.Samples.{Samples}
 
 -- children, and others after them
 abbrev pub followed_by : Children → Children → Children
@@ -37,11 +37,17 @@ module _ (A B : Automaton) where
 
     -- the bytes before the part's: value, child count, the children before, and the symbol
     abbrev pub head : List ℕ
-    head = number_bytes f.value ++ (number_bytes (length (word f.before ++ e.symbol ∷ word f.after)) ++ (children_bytes f.before ++ number_bytes e.symbol))
+    head =
+        number_bytes f.value
+        ++ (number_bytes (length (word f.before ++ e.symbol ∷ word f.after)) ++ (children_bytes f.before ++ number_bytes e.symbol))
 
     -- the bytes after the part's: the children after
     abbrev pub tail : List ℕ
     tail = children_bytes f.after
+
+  -- how many bytes there are before and after the part, up to TOO_LONG
+  abbrev pub fork_bytes : {p q : ℕ} {e : Listed} → Fork p q e → ℕ
+  fork_bytes f = min (length (head f) + length (tail f)) TOO_LONG
 
   -- a tree built along a way that goes on to the listed pair splits into a fork and the part built from there on
   pub record Split (k : Kind) (p q : ℕ) (e : Listed) (way : List Listed) (t : Tree) : Type 0 where
@@ -49,9 +55,3 @@ module _ (A B : Automaton) where
     pub part : Tree
     pub built : Built A B k e.first e.second way part
     pub whole : t ≡ joined fork part
-
-  -- the bytes before and after the part at an entry, where these are the entries from it along its parents: those around the parts of the
-  -- forks that it lies in
-  abbrev pub Surrounds : List Listed → List Listed → List ℕ → List ℕ → Type 0
-  Surrounds es [] before after = (before ≡ []) × (after ≡ [])
-  Surrounds es (e ∷ back) before after = (x : Listed) × (slice_get es e.parent ≡ Some x) × (f : Fork x.first x.second e) × (b a : List ℕ) × (before ≡ b ++ head f) × (after ≡ tail f ++ a) × Surrounds es back b a

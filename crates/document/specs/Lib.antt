@@ -1,12 +1,7 @@
-pub mod Climbing
 pub mod Documents
 pub mod Forks
-pub mod Marks
+pub mod Laws
 pub mod Nodes
 pub mod Passing
-pub mod Samples
-pub mod Sampling
-pub mod Seeds
-pub mod Sheets
-pub mod Words
+pub mod Steps
 pub mod Writing

@@ -1,18 +1,19 @@
--- Nodes of a document as they are told: the value and the children's symbols of one on the way, and of the one at its end. Assumes nothing.
+-- Nodes of a document, what they begin with: the value and the children's symbols of one on the way, and of the one at its end. Assumes nothing.
 use Rattle.std.specs.Prelude.{◌≡◌, ℕ, ◌<◌, Bool, true, List, ◌∷◌, ◌++◌, length, Some, None, Option, slice_index}
 use Rattle.std.specs.Borrow.{Bor}
 use Rattle.domain.specs.Sets.{Smallest}
 use Rattle.schema.specs.Automata.{Automaton}
 use Rattle.schema.specs.Live.{LiveSequence}
-use Rattle.schema.specs.Tables.{automaton_of}
 use Rattle.search.specs.Sequences.{First}
 use Rattle.search.specs.Watching.{Holds}
-use Rattle.document.specs.declared.telling.Node.{Node}
-use Rattle.document.specs.declared.telling.Telling.{Telling}
-use Rattle.document.specs.Seeds.{HasSamples}
+use Rattle.samples.specs.declared.node.Node.{Node}
+use Rattle.compare.specs.Schemas.{Inside, MarksLive}
+use Rattle.document.specs.declared.counterexample.Counterexample.{Counterexample}
+use Rattle.document.specs.declared.counterexample.TheConstants.{NODE_SYMBOLS}
+use Rattle.samples.specs.Kept.{HasSamples}
 
 -- the value and the symbols have the property; none, where nothing has it
-abbrev pub Answered : (ℕ → List ℕ → Type 0) → Option Node → Type 0
+abbrev pub Answered : (ℕ → List ℕ → Type 0) → Option (Node NODE_SYMBOLS) → Type 0
 Answered P (Some n) = P n.value n.word
 Answered P None = (v : ℕ) (w : List ℕ) → P v w → ⊥
 
@@ -30,20 +31,8 @@ abbrev pub Around : ℕ → List ℕ → Option (Bor (List ℕ) × Bor (List ℕ
 Around a w (Some s) = (w ≡ s.0.now ++ a ∷ s.1.now) × (Holds a s.0.now → ⊥)
 Around a w None = Holds a w → ⊥
 
-module _ {D : Type 0} (holds : D → ℕ → Bool) (t : Telling D) where
-  -- the automata of the first schema and of the second, where `holds` says which values a domain has
-  abbrev pub first_automaton : Automaton
-  first_automaton = automaton_of holds t.samples.tested.now.measured.schema
-
-  abbrev pub second_automaton : Automaton
-  second_automaton = automaton_of holds t.second.now.measured.schema
-
--- a state of the first schema, and one of the second
-abbrev pub StatePair : {D : Type 0} → Telling D → ℕ → ℕ → Type 0
-StatePair t p q = (p < t.samples.tested.now.measured.schema.states) × (q < t.second.now.measured.schema.states)
-
--- the samples are those of the first schema's live states, and the pairs are listed inside the two state counts
-pub record Ready {D : Type 0} (holds : D → ℕ → Bool) (t : Telling D) : Type 0 where
-  pub samples : HasSamples holds t.samples
-  pub firsts : t.pairs.now.firsts ≡ t.samples.tested.now.measured.schema.states
-  pub seconds : t.pairs.now.seconds ≡ t.second.now.measured.schema.states
+-- the mask is that of the first schema's live states, the samples are theirs, and the pairs are listed inside the two state counts
+pub record Ready {D : Type 0} (holds : D → ℕ → Bool) (c : Counterexample D) : Type 0 where
+  pub live : MarksLive holds c.compared
+  pub samples : HasSamples holds c.compared.first.now c.samples
+  pub inside : Inside c.compared c.pairs.now

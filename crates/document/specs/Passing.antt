@@ -1,11 +1,15 @@
--- What is told of a node that a document's way passes through. Assumes nothing.
-use Rattle.std.specs.Prelude.{ℕ, ◌∷◌, ◌++◌}
+-- A node that a document's path passes through. Assumes nothing.
+use Rattle.std.specs.Prelude.{List, ◌∷◌, ◌++◌}
 use Rattle.codec.specs.Trees.{word}
 use Rattle.schema.specs.Automata.{Automaton}
 use Rattle.compare.specs.declared.pairs.Listed.{Listed}
 use Rattle.document.specs.declared.write.Passage.{Passage}
-use Rattle.document.specs.Forks.{Fork}
+use Rattle.document.specs.Steps.{PathStep}
 
--- of a fork: the first state that it leaves, the symbol by which it goes on, its value and its children's symbols
-abbrev pub passage_of : {A B : Automaton} {p q : ℕ} {e : Listed} → Fork A B p q e → Passage
-passage_of {p} {e} f = record { state = p; symbol = e.symbol; node = record { value = f.value; word = word f.before ++ e.symbol ∷ word f.after } }
+-- of a step: the first state that it leaves, the symbol by which it goes on, its value and its children's symbols
+abbrev pub passage_of : {A B : Automaton} {es : List Listed} → PathStep A B es → Passage
+passage_of s = record {
+  state = s.from.first;
+  symbol = s.pair.symbol;
+  node = record { value = s.fork.value; word = word s.fork.before ++ s.pair.symbol ∷ word s.fork.after };
+}

@@ -20,11 +20,13 @@ use Rattle.compare.specs.Trailing.{broken_index}
 use Rattle.compare.specs.View.{View, view}
 use Rattle.compare.specs.Writing.{write_kept_from}
 use Rattle.document.specs.Documents.{DocumentOf}
-use Rattle.document.specs.Seeds.{needed}
+use Rattle.document.specs.declared.document.TheConstants.{LEVELS}
+use Rattle.samples.specs.declared.size.TheConstants.{LONGEST, TOO_LONG}
+use Rattle.samples.specs.Kept.{needed}
 
--- `scratch`: fewer than 4,160 levels are lent, which is its place
+-- `scratch`: too few levels are lent; its place is how many are needed
 abbrev pub short_levels : ℕ → Option Refusal
-short_levels levels = cond (nat_lt levels 4160) (Some (record { fault = Scratch; place = 4160 })) None
+short_levels levels = cond (nat_lt levels LEVELS) (Some (record { fault = Scratch; place = LEVELS })) None
 
 -- what keeps sound schemas from a document of the claim with these numbers, which lends so many row pairs and levels
 abbrev pub kept_from : View → Tables → Tables → Numbers → ℕ → ℕ → Option Refusal
@@ -49,24 +51,52 @@ pub record Found (A B : Automaton) (w : View) : Type 0 where
   pub tree : Tree
   pub document : DocumentIn A B w way tree
 
--- what is answered where nothing is refused before: the document's length, with its bytes at the output's front and the rest as found;
--- or `schemas`, or `room` with the bytes needed, and the output as found
+-- the tree's bytes stand at the output's front and the rest is as found, and their number is told
+abbrev pub TreeWritten : Tree → List ℕ → ℕ → List ℕ → Type 0
+TreeWritten t output n output' =
+    (n ≡ length (tree_bytes t)) × (n ≤ LONGEST) × (n ≤ length output) × (output' ≡ overwritten output 0 (tree_bytes t))
+
+-- `room`: the tree's bytes are too many for the output, or for any; the place is how many are needed
+abbrev pub TreeTooLong : Tree → List ℕ → Refusal → Type 0
+TreeTooLong t output e =
+    ((length output < needed t) ⊎ (needed t ≡ TOO_LONG)) × (e ≡ record { fault = Room; place = needed t })
+
+-- what is answered of a tree: it is written, or `room`, and the output as found
+abbrev pub TreeAnswer : Tree → List ℕ → Result ℕ Refusal → List ℕ → Type 0
+TreeAnswer t output (Ok n) output' = TreeWritten t output n output'
+TreeAnswer t output (Err e) output' = TreeTooLong t output e × (output' ≡ output)
+
+-- what is answered where nothing is refused before: what is answered of the document; or `schemas`, and the output as found
 abbrev pub DocumentAnswer : Automaton → Automaton → View → List ℕ → Result ℕ Refusal → List ℕ → Type 0
-DocumentAnswer A B w output (Ok n) output' = (d : Found A B w) × (n ≡ length (tree_bytes d.tree)) × (n ≤ 65536) × (n ≤ length output) × (output' ≡ overwritten output 0 (tree_bytes d.tree))
-DocumentAnswer A B w output (Err e) output' = ((NoDocument A B w × (e ≡ record { fault = Schemas; place = w.serial })) ⊎ ((d : Found A B w) × ((length output < needed d.tree) ⊎ (needed d.tree ≡ 65537)) × (e ≡ record { fault = Room; place = needed d.tree }))) × (output' ≡ output)
+DocumentAnswer A B w output (Ok n) output' = (d : Found A B w) × TreeWritten d.tree output n output'
+DocumentAnswer A B w output (Err e) output' =
+    ((NoDocument A B w × (e ≡ record { fault = Schemas; place = w.serial }))
+    ⊎ ((d : Found A B w) × TreeTooLong d.tree output e))
+    × (output' ≡ output)
 
 -- the one outcome: the first refusal, which leaves the output as found, or what is answered of the document
 abbrev pub Documenting : Tables → Tables → List (ℕ → Bool) → List (ℕ → Bool) → Numbers → ℕ → ℕ → Area → List ℕ → Result ℕ Refusal → List ℕ → Type 0
 Documenting T U sets others claim slots levels a output r output' =
     ((e : Refusal) × (early_refusal (view a) T U claim slots levels ≡ Some e) × (r ≡ Err e) × (output' ≡ output))
-    ⊎ ((early_refusal (view a) T U claim slots levels ≡ None) × DocumentAnswer (automaton T sets) (automaton U others) (view a) output r output')
+    ⊎ ((early_refusal (view a) T U claim slots levels ≡ None)
+    × DocumentAnswer (automaton T sets) (automaton U others) (view a) output r output')
 
 -- the call has one answer, and leaves one output
 unfoldable pub OneDocumenting : Type 0
 OneDocumenting =
-    (T U : Tables) (sets others : List (ℕ → Bool)) (claim : Numbers) (slots levels : ℕ) (a : Area) (output : List ℕ) (r s : Result ℕ Refusal) (one other : List ℕ) → Documenting T U sets others claim slots levels a output r one → Documenting T U sets others claim slots levels a output s other → (r ≡ s) × (one ≡ other)
+    (T U : Tables) (sets others : List (ℕ → Bool)) (claim : Numbers) (slots levels : ℕ) (a : Area) (output : List ℕ)
+    (r s : Result ℕ Refusal) (one other : List ℕ)
+    → Documenting T U sets others claim slots levels a output r one
+    → Documenting T U sets others claim slots levels a output s other
+    → (r ≡ s) × (one ≡ other)
 
--- with numbers that are not the holder's it is refused: by a fault of the schemas, by `symbols`, or as a stranger's; the output stays as it was
+-- with numbers that are not the holder's it is refused: by a fault of the schemas, by `symbols`, or as a stranger's; the output stays as it
+-- was
 unfoldable pub DocumentOfStranger : Type 0
 DocumentOfStranger =
-    (T U : Tables) (sets others : List (ℕ → Bool)) (claim : Numbers) (slots levels : ℕ) (a : Area) (output : List ℕ) (r : Result ℕ Refusal) (output' : List ℕ) → Documenting T U sets others claim slots levels a output r output' → is_holder (view a) claim ≡ false → (e : Refusal) × (r ≡ Err e) × (first_of (either_fault T U ∷ other_symbols (view a) T U ∷ Some (refusal_of_not_holder (view a) claim) ∷ []) ≡ Some e) × (output' ≡ output)
+    (T U : Tables) (sets others : List (ℕ → Bool)) (claim : Numbers) (slots levels : ℕ) (a : Area) (output : List ℕ)
+    (r : Result ℕ Refusal) (output' : List ℕ)
+    → Documenting T U sets others claim slots levels a output r output' → is_holder (view a) claim ≡ false
+    → (e : Refusal) × (r ≡ Err e)
+    × (first_of (either_fault T U ∷ other_symbols (view a) T U ∷ Some (refusal_of_not_holder (view a) claim) ∷ []) ≡ Some e)
+    × (output' ≡ output)

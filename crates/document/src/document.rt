@@ -1,105 +1,142 @@
 //! The document of a comparison that came out apart: a tree that the first schema accepts and the second does not.
 ghost use Rattle.std.specs.Prelude.{◌≡◌, ◌≤◌, None, length};
-ghost use Rattle.schema.specs.Tables.{tables, sets, automaton_of};
-ghost use Rattle.compare.specs.Refusals.{Refuses, other_counts};
+ghost use Rattle.refusal.specs.Order.{Refuses};
+ghost use Rattle.schema.specs.declared.tables.TheConstants.{STATES};
+ghost use Rattle.schema.specs.Meaning.{meaning, tables_of};
+ghost use Rattle.schema.specs.Tables.{tables, sets};
+ghost use Rattle.compare.specs.Listing.{entries_of};
+ghost use Rattle.compare.specs.Refusals.{other_counts};
 ghost use Rattle.compare.specs.View.{view};
-ghost use Rattle.document.specs.Documents.{TellsApart, OneDocument, HasDocument};
-ghost use Rattle.document.specs.Writing.{Documenting, DocumentAnswer, OneDocumenting, DocumentOfStranger, kept_from};
+ghost use Rattle.document.specs.declared.document.TheConstants.{LEVELS};
+ghost use Rattle.document.specs.Laws.{DocumentLaws, DocumentLimits};
+ghost use Rattle.document.specs.Nodes.{Ready};
+ghost use Rattle.document.specs.Steps.{Traced};
+ghost use Rattle.document.specs.Writing.{Documenting, DocumentAnswer, TreeAnswer, kept_from};
 
-use crate::level::Spot;
-use crate::samples::Samples;
-use crate::sheet::Sheet;
-use crate::size::LONGEST;
-use crate::telling::Telling;
+use crate::counterexample::Counterexample;
 use codec::item::Level;
 use codec::pile::Pile;
 use compare::area::{Area, refusal};
 use compare::claim::Numbers;
+use compare::compared::Compared;
 use compare::pairs::PLACES;
 use compare::writing::{broken_pair, permits_write};
 use domain::domain::Domain;
 use refusal::fault::{Fault, Refusal};
+use samples::node::NodeKey;
+use samples::output::Output;
+use samples::samples::Samples;
+use samples::size::LONGEST;
 use schema::tables::{STATES, Schema};
 use schema::tested::Tested;
 use search::pairs::RowPair;
+use search::slots::RowSlots;
 
 /// How many levels have to be lent: one for each pair that a way can have, and one for each level of a sample.
 pub const LEVELS: usize = PLACES + STATES;
 
-/// Refuses what keeps two schemas from a document before any is looked for: `symbols`, `foreign`, `ousted`, `schemas`, `early` or `scratch`.
-fn permits<D>(
+/// The row pairs for a document of the claim, or what keeps two schemas from it before any is looked for: `symbols`, `foreign`, `ousted`,
+/// `schemas`, `early` or `scratch`.
+fn permits<'a, D>(
     area: &Area,
     first: &Tested<D>,
     second: &Tested<D>,
     claim: Numbers,
-    slots: usize,
+    scratch: &'a mut [RowPair],
     levels: usize,
-) -> Result<(), Refusal>
-    ensures { Refuses (kept_from (view area.now) (tables first.now.measured.schema) (tables second.now.measured.schema) claim slots levels) result }
+) -> Result<RowSlots<'a>, Refusal>
+    ensures { Refuses
+        (kept_from (view area.now) (tables_of first.now) (tables_of second.now) claim (length scratch.old) levels)
+        result }
 {
-    permits_write(area, first, second, claim, slots)?;
+    let slots = permits_write(area, first, second, claim, scratch)?;
     if levels < LEVELS {
         return Err(Fault::Scratch.at(LEVELS));
     }
-    Ok(())
+    Ok(slots)
 }
 
-/// Writes the document of the area's broken pair at the output's front, and tells its length; or `schemas` or `room`. ROW_PAIRS row pairs and
-/// LEVELS levels are lent.
+impl<D: Domain> Counterexample<'_, '_, '_, '_, '_, D> {
+    /// Writes the document that was traced at the output's front, and tells its length; or `room`, where it is too long.
+    fn write_traced(
+        &self,
+        place: usize,
+        size: u32,
+        slots: &mut RowSlots,
+        levels: &mut Pile<Level<NodeKey>>,
+        bytes: &mut [u8],
+    ) -> Result<usize, Refusal>
+        ensures { Ready D.Domain.holds self.now → STATES ≤ length levels.old.free →
+            let A = meaning D.Domain.holds self.now.compared.first.now in
+            let B = meaning D.Domain.holds self.now.compared.second.now in
+            (d : Traced A B (entries_of self.now.pairs.now) self.now.kind place size levels.old.entries) →
+            TreeAnswer d.tree bytes.old result bytes.new }
+    {
+        let room = Fault::Room.at(size as usize);
+        if size > LONGEST || bytes.len() < size as usize {
+            return Err(room);
+        }
+        let mut output = Output { bytes, place: 0 };
+        self.write(place, slots, levels, &mut output).ok_or(room)?;
+        Ok(output.place)
+    }
+}
+
+/// Writes the document of the area's broken pair at the output's front, and tells its length; or `schemas` or `room`. LEVELS levels are lent.
 fn write_document<D: Domain>(
     area: &Area,
     first: &Tested<D>,
     second: &Tested<D>,
-    scratch: &mut [RowPair],
-    levels: &mut [Level<Spot>],
-    output: &mut [u8],
+    slots: &mut RowSlots,
+    levels: &mut [Level<NodeKey>],
+    bytes: &mut [u8],
 ) -> Result<usize, Refusal>
-    ensures { other_counts (view area.now) (tables first.now.measured.schema) (tables second.now.measured.schema) ≡ None → 272 ≤ length scratch.old → 4160 ≤ length levels.old → DocumentAnswer (automaton_of D.Domain.holds first.now.measured.schema) (automaton_of D.Domain.holds second.now.measured.schema) (view area.now) output.old result output.new }
+    ensures { other_counts (view area.now) (tables_of first.now) (tables_of second.now) ≡ None →
+        LEVELS ≤ length levels.old →
+        DocumentAnswer (meaning D.Domain.holds first.now) (meaning D.Domain.holds second.now) (view area.now)
+        bytes.old result bytes.new }
 {
     let none = refusal(area, Fault::Schemas);
-    let broken = broken_pair(area).ok_or(none)?;
-    let telling = Telling {
-        samples: Samples::of(first, scratch),
-        second,
+    let Some(broken) = broken_pair(area) else {
+        return Err(none);
+    };
+    let counterexample = Counterexample {
+        compared: Compared {
+            first,
+            second,
+            live: first.live_states(),
+        },
+        samples: Samples::of(first, slots),
         pairs: broken.pairs,
         kind: broken.kind,
     };
     let mut levels = Pile::new(levels);
-    let size = telling
-        .climb(broken.index, scratch, &mut levels)
-        .ok_or(none)?;
-    let room = Fault::Room.at(size as usize);
-    if size > LONGEST || output.len() < size as usize {
-        return Err(room);
-    }
-    let mut sheet = Sheet { output, place: 0 };
-    telling
-        .write(broken.index, scratch, &mut levels, &mut sheet)
-        .ok_or(room)?;
-    Ok(sheet.place)
+    let Some(size) = counterexample.trace(broken.index, slots, &mut levels) else {
+        return Err(none);
+    };
+    counterexample.write_traced(broken.index, size, slots, &mut levels, bytes)
 }
 
 /// Writes the document of a comparison that came out apart at the output's front, and tells its length. The claim is told by its two numbers.
 /// Or `size`, `state`, `row`, `domain`, `symbols`, `foreign`, `ousted`, `schemas`, `early`, `scratch` or `room`, and the output is as it was. The
 /// row pairs and levels hold anything afterwards.
-#[tactic(auto, using(crate::proofs::Accepting::tells_apart, crate::proofs::Unique::one_document, crate::proofs::Existing::has_document, crate::proofs::Outcomes::one_documenting, crate::proofs::Outcomes::document_of_stranger))]
+#[tactic(auto, using(crate::proofs::Laws::document_laws))]
 pub fn document<D: Domain>(
     area: &Area,
     claim: Numbers,
     first: &Schema<D>,
     second: &Schema<D>,
     scratch: &mut [RowPair],
-    levels: &mut [Level<Spot>],
+    levels: &mut [Level<NodeKey>],
     output: &mut [u8],
 ) -> Result<usize, Refusal>
-    ensures outcome { Documenting (tables first.now) (tables second.now) (sets D.Domain.holds first.now) (sets D.Domain.holds second.now) claim (length scratch.old) (length levels.old) area.now output.old result output.new }
-    ensures once { OneDocumenting }
-    ensures stranger { DocumentOfStranger }
-    ensures apart { TellsApart }
-    ensures one { OneDocument }
-    ensures exists { HasDocument }
+    ensures outcome { Documenting (tables first.now) (tables second.now)
+        (sets D.Domain.holds first.now) (sets D.Domain.holds second.now)
+        claim (length scratch.old) (length levels.old) area.now output.old result output.new }
+    ensures laws { DocumentLaws }
+    ensures limits { DocumentLimits }
 {
     let (first, second) = Tested::both(first, second)?;
-    permits(area, &first, &second, claim, scratch.len(), levels.len())?;
-    write_document(area, &first, &second, scratch, levels, output)
+    let mut slots = permits(area, &first, &second, claim, scratch, levels.len())?;
+    write_document(area, &first, &second, &mut slots, levels, output)
 }

@@ -1,13 +1,7 @@
-//! Documents: the tree that tells two schemas apart, written along the trail to a broken pair.
+//! Documents: the tree that tells two schemas apart, written along the path to a broken pair.
 #![tactic(auto)]
 
-pub mod climb;
+pub mod counterexample;
 pub mod document;
-pub mod level;
-pub mod samples;
-pub mod sampling;
-pub mod sheet;
-pub mod size;
-pub mod telling;
-pub mod word;
+pub mod trace;
 pub mod write;

@@ -1,0 +1,84 @@
+-- Going from a broken pair back along the pairs that led to it: the node of each step, and what is left of the path. Assumes nothing.
+use Rattle.std.specs.Prelude.{◌≡◌, ℕ, ◌<◌, ◌≤◌, List, [], ◌∷◌, ◌++◌, length, map, Some, None, Option}
+use Rattle.std.specs.List.{slice_get}
+use Rattle.codec.specs.declared.item.Level.{Level}
+use Rattle.codec.specs.Encoding.{tree_bytes}
+use Rattle.codec.specs.Trees.{Tree}
+use Rattle.schema.specs.Automata.{Automaton}
+use Rattle.samples.specs.declared.node.NodeKey.{NodeKey}
+use Rattle.samples.specs.declared.node.NodeKey.TheVariants.{Pair}
+use Rattle.samples.specs.Kept.{needed}
+use Rattle.compare.specs.declared.pairs.Listed.{Listed}
+use Rattle.compare.specs.declared.phase.Kind.{Kind}
+use Rattle.document.specs.declared.trace.Step.{Step}
+use Rattle.document.specs.Documents.{Built, DocumentOf}
+use Rattle.document.specs.Forks.{Fork, fork_bytes, head, tail}
+
+-- the level of the pair at a place of the list
+abbrev pub mark : ℕ → Level NodeKey
+mark i = record { left = 0; at = Pair i }
+
+-- the listed pair at i is led to by the listed pair x
+pub record LedFrom (es : List Listed) (i : ℕ) (e x : Listed) : Type 0 where
+  pub there : slice_get es i ≡ Some e
+  pub before : e.parent < i
+  pub parent : slice_get es e.parent ≡ Some x
+
+-- a step of a path: the place of a pair, the pair, the one that led to it, and the node there from which the path goes on
+pub record PathStep (A B : Automaton) (es : List Listed) : Type 0 where
+  pub place : ℕ
+  pub pair : Listed
+  pub from : Listed
+  pub led : LedFrom es place pair from
+  pub fork : Fork A B from.first from.second pair
+
+module _ {A B : Automaton} {es : List Listed} where
+  -- the levels of the steps' pairs
+  abbrev pub marks : List (PathStep A B es) → List (Level NodeKey)
+  marks steps = map (λ s. mark s.place) steps
+
+  -- the bytes before the tree that the path goes on to, where these are the steps from its last one back
+  abbrev pub heads : List (PathStep A B es) → List ℕ
+  heads [] = []
+  heads (s ∷ steps) = heads steps ++ head A B s.fork
+
+  -- and those after it
+  abbrev pub tails : List (PathStep A B es) → List ℕ
+  tails [] = []
+  tails (s ∷ steps) = tail A B s.fork ++ tails steps
+
+module _ (A B : Automaton) (es : List Listed) where
+  -- one step back from the pair at i: where it comes to, and the bytes of the node there but for the tree of the child that goes on; none,
+  -- where no node goes on so
+  abbrev pub StepsBack : ℕ → Option Step → Type 0
+  StepsBack i (Some s) =
+      (p : PathStep A B es) × (p.place ≡ i) × (s.at ≡ p.pair.parent) × (s.size ≡ fork_bytes A B p.fork)
+  StepsBack i None = (e x : Listed) → LedFrom es i e x → Fork A B x.first x.second e → ⊥
+
+  -- the bytes needed for the tree that is built from the pair at i on, which is broken in a kind; none, where there is no such tree
+  abbrev pub EndsAt : Kind → ℕ → Option ℕ → Type 0
+  EndsAt k i (Some size) =
+      (x : Listed) × (t : Tree) × (slice_get es i ≡ Some x) × Built A B k x.first x.second [] t × (size ≡ needed t)
+  EndsAt k i None =
+      (x : Listed) (t : Tree) → slice_get es i ≡ Some x → Built A B k x.first x.second [] t → ⊥
+
+  -- what is found of the pair at i, which is broken in a kind: the document, the bytes needed for it, and the levels of the path to it, its
+  -- last pair at the bottom; and how the document's bytes are parted by the path
+  pub record Traced (k : Kind) (i size : ℕ) (levels : List (Level NodeKey)) : Type 0 where
+    pub path : List Listed
+    pub tree : Tree
+    pub document : DocumentOf A B k es i path tree
+    pub bytes : size ≡ needed tree
+    pub steps : List (PathStep A B es)
+    pub few : length steps ≤ i
+    pub marked : levels ≡ marks steps
+    pub last : Listed
+    pub listed : slice_get es i ≡ Some last
+    pub part : Tree
+    pub ends : Built A B k last.first last.second [] part
+    pub parted : tree_bytes tree ≡ heads steps ++ (tree_bytes part ++ tails steps)
+
+  -- or there is no document
+  abbrev pub TracesBack : Kind → ℕ → Option ℕ → List (Level NodeKey) → Type 0
+  TracesBack k i (Some size) levels = Traced k i size levels
+  TracesBack k i None levels = (path : List Listed) (t : Tree) → DocumentOf A B k es i path t → ⊥

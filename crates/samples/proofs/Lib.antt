@@ -1,0 +1,12 @@
+pub mod Accepting
+pub mod Brothers
+pub mod Growing
+pub mod Heights
+pub mod Lengths
+pub mod Outputs
+pub mod Ranking
+pub mod Sizing
+pub mod Tested
+pub mod Turning
+pub mod Underway
+pub mod Unique

@@ -1,0 +1,4 @@
+pub mod Kept
+pub mod Outputs
+pub mod Samples
+pub mod Writing
