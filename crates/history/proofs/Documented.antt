@@ -28,7 +28,7 @@ use Rattle.history.proofs.Counting.{is_apart}
 use Rattle.history.proofs.Effects.{Effect, Keeps, Steps, Parts, effect, step_none, part_left, started_so}
 use Rattle.history.proofs.Holders.{Onward, step_onward, part_onward, Standing, stands_now, stands_on, stands_along, held_on, started_held}
 use Rattle.history.proofs.Permits.{Held, Noted, holder_held, begin_permitted, same_symbols, nothing_early}
-use Rattle.history.proofs.Verdicts.{GrownFor, grown_same, now_grown}
+use Rattle.history.proofs.Verdicts.{InvariantFor, invariant_moved, now_invariant}
 
 -- the noted counts stay those of the schemas
 module _ (T U : Tables) where
@@ -101,19 +101,19 @@ apart a c on = by_kind c.now.phase (stands_now c.claim (λ x. is_apart x.phase �
 
 -- while it is apart, the broken pair of a comparison of the two schemas has a document
 not_lacking :
-    (g : Handed) (a : Area) (k : Kind) → a.phase ≡ phase.Apart k → GrownFor g a →
+    (g : Handed) (a : Area) (k : Kind) → a.phase ≡ phase.Apart k → InvariantFor g a →
     NoDocument (first_automaton g) (second_automaton g) (view a) → ⊥
 unfolding HasDocument
-not_lacking g a k apart grown lacks =
+not_lacking g a k apart invariant lacks =
     let A = first_automaton g in
     let B = second_automaton g in
     let w = view a in
-    let last : LastBroken A B w k = subst (Stands A B w) apart grown.stands in
+    let last : LastBroken A B w k = subst (Stands A B w) apart invariant.stands in
     let at : slice_get w.pairs (broken_index w) ≡ Some last.pair = ap (slice_get w.pairs) (last_index A B w k last) ∙ last.at in
     ⊎_elim
-    (λ root. has_document A B k w.pairs (broken_index w) last.pair (λ q v has. ltb-true v (2 ^ 32) (and_parts (ltb v (2 ^ 32)) _ has).0) root.0 root.1 grown.reached at last.broken (λ way t d. lacks way t (k, apart, d)))
+    (λ root. has_document A B k w.pairs (broken_index w) last.pair (λ q v has. ltb-true v (2 ^ 32) (and_parts (ltb v (2 ^ 32)) _ has).0) root.0 root.1 invariant.reached at last.broken (λ path t d. lacks path t (k, apart, d)))
     (λ none. none-some _ (subst (λ (es : List Listed). slice_get es (broken_index w) ≡ Some last.pair) none.1 at))
-    grown.rooted
+    invariant.rooted
 
 module _ {a : Area} (c : Comparison a) where
   -- the counts of its schemas are noted as long as its claim is the holder
@@ -148,8 +148,8 @@ pub documented :
     DocumentRefused c e → e.fault ≡ Room
 documented a c over on e r =
     let there = apart a c on in
-    let grown = grown_same c.schemas r.handed c.now r.same (now_grown c over on.holder) in
+    let invariant = invariant_moved c.schemas r.handed c.now r.same (now_invariant c over on.holder) in
     ⊎_elim
     (λ refused. absurd (some_not_none (sym refused.1 ∙ not_early c on e r)))
-    (λ answer. ⊎_elim (λ lacking. absurd (not_lacking r.handed c.now there.0 there.1 grown lacking.0)) (λ long. ap (λ (x : Refusal). x.fault) long.2) answer.1.0)
+    (λ answer. ⊎_elim (λ lacking. absurd (not_lacking r.handed c.now there.0 there.1 invariant lacking.0)) (λ long. ap (λ (x : Refusal). x.fault) long.1.1) answer.1.0)
     r.does.0

@@ -86,8 +86,8 @@ one_pair = record { firsts = 1; seconds = 1; entries = slots; length = 1; bits =
 abbrev listing : ℕ → Phase → ℕ → Area
 listing serial p examined = record { number = 7; serial = serial; phase = p; symbols = 2; pairs = one_pair; examined = examined }
 
--- with a comparison that runs, with one of V and U that is ready and then apart, and with one of U and V
--- that is ready
+-- with a comparison that runs, with one of V and U that is ready and then apart, and with one of U
+-- and V that is ready
 abbrev running : ℕ → Area
 running serial = listing serial phase.Running 0
 
@@ -118,8 +118,8 @@ module _ (a : Area) (made : view a ≡ free 7 0) where
   abbrev free_again : ℕ → Area
   free_again serial = record { number = 7; serial = serial; phase = phase.Free; symbols = 0; pairs = a.pairs; examined = 0 }
 
-  said_free : (serial : ℕ) → view (free_again serial) ≡ free 7 serial
-  said_free serial = ap (λ (w : View). record w { number = 7; serial = serial; phase = phase.Free; symbols = 0; examined = 0 }) made
+  view_free : (serial : ℕ) → view (free_again serial) ≡ free 7 serial
+  view_free serial = ap (λ (w : View). record w { number = 7; serial = serial; phase = phase.Free; symbols = 0; examined = 0 }) made
 
   -- a comparison of U and V begins on a free area
   begins :
@@ -136,13 +136,13 @@ module _ (a : Area) (made : view a ≡ free 7 0) where
   runs : Runs example a (free_again 3)
   runs =
       let bytes = v_u_document.written in
-      let conclude_included : From 11 ready_included = (free_again 3, (refl, (refl, refl, said_free 3)), refl) in
+      let conclude_included : From 11 ready_included = (free_again 3, (refl, (refl, refl, view_free 3)), refl) in
       let step_third : From 10 (running 3) = (ready_included, (refl, record { stepped = u_v_step; count = refl; mark = refl }), conclude_included) in
-      let take_third : From 9 (free_again 2) = (running 3, begins (free_again 2) 2 (said_free 2) refl, step_third) in
-      let give_up_second : From 8 concluded_apart = (free_again 2, (refl, (refl, said_free 2)), take_third) in
+      let take_third : From 9 (free_again 2) = (running 3, begins (free_again 2) 2 (view_free 2) refl, step_third) in
+      let give_up_second : From 8 concluded_apart = (free_again 2, (refl, (refl, view_free 2)), take_third) in
       let give_up_first : From 7 concluded_apart = (concluded_apart, (refl, (refl, refl)), give_up_second) in
-      let write_document : From 6 concluded_apart = (concluded_apart, (inr (refl, (v_u_found, sym (ap length bytes), omega arith, omega arith, ap (overwritten room_for_six 0) (sym bytes))), refl), give_up_first) in
-      let write_trail : From 5 concluded_apart = (concluded_apart, (([], refl, (refl, refl, refl)), refl), write_document) in
+      let write_document : From 6 concluded_apart = (concluded_apart, (inr (refl, (v_u_found, (sym (ap length bytes), omega arith, omega arith, ap (overwritten room_for_six 0) (sym bytes)))), refl), give_up_first) in
+      let write_trail : From 5 concluded_apart = (concluded_apart, (([], ([], refl, refl), (refl, refl, refl)), refl), write_document) in
       let conclude_second : From 4 ready_apart = (concluded_apart, (refl, (refl, refl, refl, refl, refl)), write_trail) in
       let step_second : From 3 (running 2) = (ready_apart, (refl, record { stepped = v_u_step; count = refl; mark = refl }), conclude_second) in
       let step_first : From 2 (running 2) = (running 2, (refl, refl), step_second) in

@@ -51,8 +51,8 @@ module _ (n : Numbers) where
       let parts = and_parts _ (eqb n.serial w.serial) held in
       not_holders w n gone (record { number = gone.number; serial = sym (eqb-true n.serial w.serial parts.1); busy = not-true _ parts.0 }) (these n refl)
 
--- what a step and a conclusion apart keep: all that is said of the area, but for the phase, the list and
--- the count of examined pairs, which does not fall; and that there is a comparison
+-- what a step and a conclusion apart keep: all that is said of the area, but for the phase, the
+-- list and the count of examined pairs, which does not fall; and that there is a comparison
 pub record Onward (w w' : View) : Type 0 where
   pub number : w'.number ≡ w.number
   pub serial : w'.serial ≡ w.serial

@@ -28,7 +28,7 @@ use Rattle.compare.specs.Pairs.{start}
 use Rattle.compare.specs.View.{View, begun}
 use Rattle.compare.proofs.Outcomes.{same_decision}
 use Rattle.compare.proofs.Turned.{one_stepped}
-use Rattle.document.specs.Samples.{LowerSequence, Sample}
+use Rattle.samples.specs.Samples.{LowerSequence, Sample}
 use Rattle.history.proofs.MarkedSets.{joint_gap, touching_refused, parted_taken}
 use Rattle.history.specs.Marked.{zero_alone, U, V, W, over_zero, Compares, ComesTo, DocumentBytes, MarkedCases}
 

@@ -10,6 +10,7 @@ use Rattle.schema.specs.Faults.{either_fault}
 use Rattle.schema.specs.Tables.{Tables}
 use Rattle.schema.proofs.Sound.{first_none, some_not_none}
 use Rattle.search.specs.declared.pairs.TheConstants.{ROW_PAIRS}
+use Rattle.search.specs.Scratch.{short_scratch}
 use Rattle.compare.specs.declared.claim.Numbers.{Numbers}
 use Rattle.compare.specs.declared.event.Event.{Event}
 use Rattle.compare.specs.declared.event.Event.TheVariants.{Take, Conclude, Write}
@@ -21,7 +22,7 @@ use Rattle.compare.specs.declared.phase.Verdict.TheVariants as verdict
 use Rattle.compare.specs.Beginning.{begin_refusal, begin_kept_from}
 use Rattle.compare.specs.Concluding.{claim_refusal}
 use Rattle.compare.specs.Phases.{decided}
-use Rattle.compare.specs.Refusals.{where_found, by_phase, of_another, other_symbols, other_counts, phase_refuses, short_scratch, holder_refusal, held_kept_from}
+use Rattle.compare.specs.Refusals.{where_found, by_phase, of_another, other_symbols, other_counts, phase_refuses, holder_refusal, held_kept_from}
 use Rattle.compare.specs.Stepping.{step_kept_from, step_refusal}
 use Rattle.compare.specs.NotHolder.{is_holder}
 use Rattle.compare.specs.View.{View, is_free, held_by}

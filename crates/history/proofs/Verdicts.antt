@@ -29,39 +29,39 @@ use Rattle.history.proofs.Permits.{claim_permitted, held_holder}
 use Rattle.history.proofs.Transport.{same_first, same_second}
 
 -- the area has come as far as a comparison of these schemas does
-abbrev pub GrownFor : Handed → Area → Type 0
-GrownFor g a = Invariant (first_automaton g) (second_automaton g) (view a)
+abbrev pub InvariantFor : Handed → Area → Type 0
+InvariantFor g a = Invariant (first_automaton g) (second_automaton g) (view a)
 
 -- so it has for the same schemas
-pub grown_same : (g h : Handed) (a : Area) → Same g h → GrownFor g a → GrownFor h a
-grown_same g h a same grown =
-    subst (λ (X : Automaton). Invariant X (second_automaton h) (view a)) (same_first g h same) (subst (λ (Y : Automaton). Invariant (first_automaton g) Y (view a)) (same_second g h same) grown)
+pub invariant_moved : (g h : Handed) (a : Area) → Same g h → InvariantFor g a → InvariantFor h a
+invariant_moved g h a same invariant =
+    subst (λ (X : Automaton). Invariant X (second_automaton h) (view a)) (same_first g h same) (subst (λ (Y : Automaton). Invariant (first_automaton g) Y (view a)) (same_second g h same) invariant)
 
-grown_back : (g h : Handed) (a : Area) → Same g h → GrownFor h a → GrownFor g a
-grown_back g h a same grown =
-    subst (λ (X : Automaton). Invariant X (second_automaton g) (view a)) (sym (same_first g h same)) (subst (λ (Y : Automaton). Invariant (first_automaton h) Y (view a)) (sym (same_second g h same)) grown)
+invariant_back : (g h : Handed) (a : Area) → Same g h → InvariantFor h a → InvariantFor g a
+invariant_back g h a same invariant =
+    subst (λ (X : Automaton). Invariant X (second_automaton g) (view a)) (sym (same_first g h same)) (subst (λ (Y : Automaton). Invariant (first_automaton h) Y (view a)) (sym (same_second g h same)) invariant)
 
 module _ (g : Handed) (n : Numbers) where
   -- it holds the area, which has come as far as a comparison of its schemas does; or it has ended
   abbrev pub Known : Area → Type 0
-  Known = Standing n (GrownFor g)
+  Known = Standing n (InvariantFor g)
 
   -- what each call keeps
   pub known_on : (d : Call) (a a' : Area) → StepsOver n g d → Effect d a a' → Known a → Known a'
   unfolding InvariantSteps InvariantConcludes
-  known_on d a a' over e = stands_on n (GrownFor g) (GrownFor g) kept stepped parted e
+  known_on d a a' over e = stands_on n (InvariantFor g) (InvariantFor g) kept stepped parted e
     where
-      kept : Keeps d a a' → GrownFor g a → GrownFor g a'
-      kept k grown = subst (GrownFor g) (sym k.same) grown
+      kept : Keeps d a a' → InvariantFor g a → InvariantFor g a'
+      kept k invariant = subst (InvariantFor g) (sym k.same) invariant
 
-      stepped : (s : Steps d a a') → same_numbers n s.numbers ≡ true → GrownFor g a → GrownFor g a'
-      stepped s its grown =
+      stepped : (s : Steps d a a') → same_numbers n s.numbers ≡ true → InvariantFor g a → InvariantFor g a'
+      stepped s its invariant =
           let h = s.handed in
           let same : Same g h = subst (StepsOver n g) s.is over its in
-          grown_back g h a' same (invariant_steps h.first h.second h.first_sets h.second_sets s.numbers s.asked s.slots a s.answer a' s.does (grown_same g h a same grown))
+          invariant_back g h a' same (invariant_steps h.first h.second h.first_sets h.second_sets s.numbers s.asked s.slots a s.answer a' s.does (invariant_moved g h a same invariant))
 
-      parted : Parts d a a' → GrownFor g a → GrownFor g a'
-      parted p grown = invariant_concludes (first_automaton g) (second_automaton g) a p.claim p.kind p.count p.apart a' p.does grown
+      parted : Parts d a a' → InvariantFor g a → InvariantFor g a'
+      parted p invariant = invariant_concludes (first_automaton g) (second_automaton g) a p.claim p.kind p.count p.apart a' p.does invariant
 
   run_known :
       (cs : List Call) (a now : Area) → Runs cs a now → AllByRecursion (StepsOver n g) cs → Known a →
@@ -79,8 +79,8 @@ module _ {a : Area} (c : Comparison a) where
       inl (started_held c, invariant_begins s.event g.first g.second g.first_sets g.second_sets c.at s.claim c.begun s.does)
 
   -- and what there is now, as long as its claim is the holder
-  pub now_grown : StepsOverItsOwn c → is_holder (view c.now) c.claim ≡ true → GrownFor c.schemas c.now
-  now_grown over holder = stands_now c.claim (GrownFor c.schemas) c.now (run_known c.schemas c.claim c.since c.begun c.now c.goes_on over begun_known) holder
+  pub now_invariant : StepsOverItsOwn c → is_holder (view c.now) c.claim ≡ true → InvariantFor c.schemas c.now
+  now_invariant over holder = stands_now c.claim (InvariantFor c.schemas) c.now (run_known c.schemas c.claim c.since c.begun c.now c.goes_on over begun_known) holder
 
   -- one that is concluded now is the holder's
   pub concluder : (v : Concluded) → ConcludesNow c v → IsHolder c
@@ -111,20 +111,20 @@ module _ (A B : Automaton) where
   last_reached :
       (w : View) (k : Kind) (count : ℕ) (claim : Lease parted.Apart) → Invariant A B w →
       w.phase ≡ phase.Ready (verdict.Apart k) → ReachesBroken A B (Apart k count claim)
-  last_reached w k count claim grown is =
-      let last : LastBroken A B w k = subst (Stands A B w) is grown.stands in
-      let r = grown.reached (w.examined - 1) last.pair last.at in
+  last_reached w k count claim invariant is =
+      let last : LastBroken A B w k = subst (Stands A B w) is invariant.stands in
+      let r = invariant.reached (w.examined - 1) last.pair last.at in
       record { word = r.0; first = last.pair.first; second = last.pair.second; live = r.2; beside = r.3; broken = last.broken }
 
   conclusion_right :
       (a a' : Area) (claim : Lease Comparing) (v : Concluded) → Invariant A B (view a) →
       Conclusion a claim (Ok v) a' → Right A B v
   unfolding IncludedCarries ApartTells
-  conclusion_right a a' claim (Included count) grown does = included_right (included_carries A B (view a) grown does.1.0) count
-  conclusion_right a a' claim (Apart k count apart) grown does = apart_right (apart_tells A B (view a) k grown (inl does.1.0)) k count apart (last_reached (view a) k count apart grown does.1.0)
+  conclusion_right a a' claim (Included count) invariant does = included_right (included_carries A B (view a) invariant does.1.0) count
+  conclusion_right a a' claim (Apart k count apart) invariant does = apart_right (apart_tells A B (view a) k invariant (inl does.1.0)) k count apart (last_reached (view a) k count apart invariant does.1.0)
 
 pub concluded :
     (a : Area) (c : Comparison a) → StepsOverItsOwn c → (v : Concluded) → ConcludesNow c v →
     Right (first_automaton c.schemas) (second_automaton c.schemas) v
 concluded a c over v asked =
-    conclusion_right (first_automaton c.schemas) (second_automaton c.schemas) c.now asked.after asked.claim v (now_grown c over (concluder c v asked)) asked.does
+    conclusion_right (first_automaton c.schemas) (second_automaton c.schemas) c.now asked.after asked.claim v (now_invariant c over (concluder c v asked)) asked.does

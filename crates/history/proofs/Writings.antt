@@ -1,15 +1,17 @@
 -- What a comparison writes: once it is apart its list and its broken pair stay, so all is written
--- along one way. Assumes nothing.
+-- along one path. Assumes nothing.
 use Rattle.std.proofs.Common.{◌≡◌, ℕ, ◌-◌, true, false, ◌&&◌, List, [], ◌∷◌, length, Ok, is_ok, sym, refl, ap, ◌∙◌, subst, inl, inr, ⊎_elim}
 use Rattle.std.specs.List.{AllByRecursion, slice_get}
 use Rattle.std.proofs.lemmas.Bool.{and_parts, both_ways, or_cases, false≢true}
 use Rattle.std.proofs.lemmas.List.{length-map}
-use Rattle.std.proofs.lemmas.Option.{none-some, slice_get_within}
+use Rattle.std.proofs.lemmas.Option.{none-some}
 use Rattle.codec.specs.Numbers.{overwritten}
 use Rattle.codec.specs.Trees.{Tree}
 use Rattle.schema.specs.Automata.{Automaton}
 use Rattle.schema.specs.Live.{LivePath}
 use Rattle.schema.proofs.Sound.{first_none}
+use Rattle.search.specs.Paths.{word_of}
+use Rattle.search.proofs.Paths.{one_path}
 use Rattle.compare.specs.declared.area.Area.{Area}
 use Rattle.compare.specs.declared.claim.Numbers.{Numbers}
 use Rattle.compare.specs.declared.event.Event.TheVariants.{Write}
@@ -19,22 +21,21 @@ use Rattle.compare.specs.declared.phase.Phase.{Phase}
 use Rattle.compare.specs.declared.phase.Phase.TheVariants as phase
 use Rattle.compare.specs.Concluding.{claim_refusal}
 use Rattle.compare.specs.Invariant.{StatePath, LastBroken, Stands}
+use Rattle.compare.specs.Listing.{pair_links}
 use Rattle.compare.specs.Trailing.{Trail, broken_index}
 use Rattle.compare.specs.View.{View, view}
 use Rattle.compare.proofs.Invariant.{last_index}
-use Rattle.compare.proofs.Trails.{one_trail}
-use Rattle.document.specs.Documents.{Way, symbols_of, DocumentOf}
+use Rattle.document.specs.Documents.{DocumentOf}
 use Rattle.document.proofs.Accepting.{built_tells}
-use Rattle.document.proofs.Ways.{every_way, one_way, way_trail}
 use Rattle.history.specs.Calls.{Handed, first_automaton, second_automaton, Same, Call, trail, document, Does, Runs, same_numbers, is_made_with, some_own, is_writing, StepsOver}
 use Rattle.history.specs.Comparisons.{Comparison, own_call, StepsOverItsOwn}
-use Rattle.history.specs.Law.{BrokenInList, SymbolsWritten, TreeWritten, WritesTrail, WritesDocument, WroteBy, Wrote}
+use Rattle.history.specs.Law.{BrokenInList, SymbolsWritten, DocumentWritten, WritesTrail, WritesDocument, WroteBy, Wrote}
 use Rattle.history.proofs.Counting.{is_apart}
 use Rattle.history.proofs.Effects.{Effect, Steps, Parts, effect, step_none}
 use Rattle.history.proofs.Holders.{stands_by, Gone, not_holders, gone_on, Standing, stands_on}
 use Rattle.history.proofs.Permits.{Held, claim_permitted, document_permitted, write_apart}
 use Rattle.history.proofs.Transport.{same_first, same_second}
-use Rattle.history.proofs.Verdicts.{GrownFor, Known, known_on, begun_known}
+use Rattle.history.proofs.Verdicts.{InvariantFor, Known, known_on, begun_known}
 
 -- who writes with an accepted trail or document: the holder of an area that is apart
 record Writer (d : Call) (w : View) : Type 0 where
@@ -100,20 +101,20 @@ module _ (g : Handed) (b : BrokenInList g) where
       (subst (λ (fs : List Listed). DocumentOf (first_automaton h) (second_automaton h) k fs b.index v t) fixed.pairs
       (subst (λ (j : ℕ). DocumentOf (first_automaton h) (second_automaton h) k w.pairs j v t) fixed.index d))))
 
-  -- where the area is apart so, an accepted trail writes the way's symbols
+  -- where the area is apart so, an accepted trail writes the word of the path
   fixed_trail :
       (m : Numbers) (o : List ℕ) (size : ℕ) (o' : List ℕ) (a a' : Area) → Does (trail m o (Ok size) o') a a' → FixedIn a →
-      SymbolsWritten b.way o size o'
+      SymbolsWritten b.path o size o'
   fixed_trail m o size o' a a' does fixed =
       let t = does.0 in
       let there : Trail b.pairs b.index t.0 = subst (λ (j : ℕ). Trail b.pairs j t.0) fixed.index (subst (λ (es : List Listed). Trail es (broken_index (view a)) t.0) fixed.pairs t.1) in
-      let same : t.0 ≡ symbols_of b.way = one_trail b.pairs b.index t.0 (symbols_of b.way) there (way_trail b.pairs b.index b.way b.leads) in
-      record { answer = t.2.1 ∙ ap length same ∙ length-map b.way (λ (e : Listed). e.symbol); bytes = t.2.2 ∙ ap (overwritten o 0) same }
+      let same : t.0 ≡ word_of pair_links b.path = sym there.2 ∙ ap (word_of pair_links) (one_path pair_links b.pairs b.index there.0 b.path there.1 b.leads) in
+      record { answer = t.2.1 ∙ ap length same ∙ length-map b.path (λ (e : Listed). e.symbol); bytes = t.2.2 ∙ ap (overwritten o 0) same }
 
   -- and an accepted document the tree along it
   fixed_document :
       (m : Numbers) (h : Handed) (slots levels : ℕ) (o : List ℕ) (size : ℕ) (o' : List ℕ) (a a' : Area) →
-      Does (document m h slots levels o (Ok size) o') a a' → Same g h → FixedIn a → TreeWritten g b o size o'
+      Does (document m h slots levels o (Ok size) o') a a' → Same g h → FixedIn a → DocumentWritten g b o size o'
   fixed_document m h slots levels o size o' a a' does same fixed =
       ⊎_elim
       (λ refused. absurd (false≢true (sym (ap is_ok refused.2))))
@@ -122,16 +123,16 @@ module _ (g : Handed) (b : BrokenInList g) where
       let B = second_automaton g in
       let d = answer.1.0 in
       let its = moved h d.document.0 (view a) d.way d.tree same d.document.1 fixed d.document.2 in
-      let here = one_way b.pairs b.index d.way b.way its.leads b.leads in
-      let along : DocumentOf A B b.kind b.pairs b.index b.way d.tree = subst (λ (v : List Listed). DocumentOf A B b.kind b.pairs b.index v d.tree) here its in
-      let told = built_tells A B b.kind 0 0 b.way d.tree along.built in
-      record { tree = d.tree; document = along; first = told.0; second = told.1; answer = answer.1.1; bytes = answer.1.4 })
+      let here = one_path pair_links b.pairs b.index d.way b.path its.leads b.leads in
+      let along : DocumentOf A B b.kind b.pairs b.index b.path d.tree = subst (λ (v : List Listed). DocumentOf A B b.kind b.pairs b.index v d.tree) here its in
+      let told = built_tells A B b.kind 0 0 b.path d.tree along.built in
+      record { tree = d.tree; document = along; first = told.0; second = told.1; answer = answer.1.1.0; bytes = answer.1.1.3 })
       does.0
 
 module _ (g : Handed) (n : Numbers) (b : BrokenInList g) where
   -- what is said of a call
   record Writes (d : Call) : Type 0 where
-    trail : WritesTrail n b.way d
+    trail : WritesTrail n b.path d
     document : WritesDocument n g b d
 
   -- nothing of one that does not write
@@ -140,7 +141,7 @@ module _ (g : Handed) (n : Numbers) (b : BrokenInList g) where
   unwritten (document m h slots levels o (Ok size) o') not = record { trail = tt; document = λ its same. absurd (not its refl) }
   unwritten d not = record { trail = tt; document = tt }
 
-  -- where the area is apart so, the two write along the way
+  -- where the area is apart so, the two write along the path
   fixed_writes : (d : Call) (a a' : Area) → Does d a a' → FixedIn g b a → Writes d
   fixed_writes (trail m o (Ok size) o') a a' does fixed = record { trail = λ its. fixed_trail g b m o size o' a a' does fixed; document = tt }
   fixed_writes (document m h slots levels o (Ok size) o') a a' does fixed =
@@ -153,7 +154,7 @@ module _ (g : Handed) (n : Numbers) (b : BrokenInList g) where
   one_writes d a a' does (inr gone) = unwritten d (gone_unwritten n d a a' does gone)
 
   record Written (cs : List Call) (now : Area) : Type 0 where
-    trails : AllByRecursion (WritesTrail n b.way) cs
+    trails : AllByRecursion (WritesTrail n b.path) cs
     documents : AllByRecursion (WritesDocument n g b) cs
     still : Standing n (FixedIn g b) now
 
@@ -178,20 +179,20 @@ module _ (g : Handed) (n : Numbers) (b : BrokenInList g) where
       }
 
 -- the broken pair of an area that is apart, in a comparison of these schemas
-broken_in : (g : Handed) (a : Area) (k : Kind) → GrownFor g a → a.phase ≡ phase.Apart k → (b : BrokenInList g) × FixedIn g b a
-broken_in g a k grown apart = (
+broken_in : (g : Handed) (a : Area) (k : Kind) → InvariantFor g a → a.phase ≡ phase.Apart k → (b : BrokenInList g) × FixedIn g b a
+broken_in g a k invariant apart = (
   record {
     pairs = w.pairs;
-    starts = ⊎_elim (λ root. root.1) (λ none. absurd (none-some _ (sym (ap (λ (l : List Listed). slice_get l i) none.1) ∙ last.at))) grown.rooted;
+    starts = ⊎_elim (λ root. root.1) (λ none. absurd (none-some _ (sym (ap (λ (l : List Listed). slice_get l i) none.1) ∙ last.at))) invariant.rooted;
     index = i;
     entry = last.pair;
     at = last.at;
     kind = k;
     broken = last.broken;
-    way = way.0;
-    leads = way.1;
-    live = subst (λ (v : List ℕ). LivePath (first_automaton g) 0 v last.pair.first) along reached.2;
-    beside = subst (λ (v : List ℕ). StatePath (second_automaton g) 0 v last.pair.second) along reached.3;
+    path = reached.1.0;
+    leads = reached.1.1;
+    live = subst (λ (v : List ℕ). LivePath (first_automaton g) 0 v last.pair.first) (sym reached.1.2) reached.2;
+    beside = subst (λ (v : List ℕ). StatePath (second_automaton g) 0 v last.pair.second) (sym reached.1.2) reached.3;
   },
   record { apart = apart; pairs = refl; index = last_index (first_automaton g) (second_automaton g) w k last },
 )
@@ -203,16 +204,10 @@ broken_in g a k grown apart = (
     i = w.examined - 1
 
     last : LastBroken (first_automaton g) (second_automaton g) w k
-    last = subst (Stands (first_automaton g) (second_automaton g) w) apart grown.stands
-
-    way : (path : List Listed) × Way w.pairs i path
-    way = every_way a.pairs i (slice_get_within w.pairs i last.pair last.at)
+    last = subst (Stands (first_automaton g) (second_automaton g) w) apart invariant.stands
 
     reached : (v : List ℕ) × Trail w.pairs i v × LivePath (first_automaton g) 0 v last.pair.first × StatePath (second_automaton g) 0 v last.pair.second
-    reached = grown.reached i last.pair last.at
-
-    along : reached.0 ≡ symbols_of way.0
-    along = one_trail w.pairs i reached.0 (symbols_of way.0) reached.1 (way_trail w.pairs i way.0 way.1)
+    reached = invariant.reached i last.pair last.at
 
 module _ (g : Handed) (n : Numbers) where
   -- one call more before them, which does not write
@@ -225,10 +220,10 @@ module _ (g : Handed) (n : Numbers) where
 
   -- from an area on that is apart
   wrote_from :
-      (cs : List Call) (a now : Area) (k : Kind) → Runs cs a now → Held n (view a) → GrownFor g a →
+      (cs : List Call) (a now : Area) (k : Kind) → Runs cs a now → Held n (view a) → InvariantFor g a →
       a.phase ≡ phase.Apart k → WroteBy g n cs now
-  wrote_from cs a now k runs held grown apart =
-      let found = broken_in g a k grown apart in
+  wrote_from cs a now k runs held invariant apart =
+      let found = broken_in g a k invariant apart in
       wrote_all g n found.0 cs a now runs held found.1
 
   -- where it has ended it writes no more

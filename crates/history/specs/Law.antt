@@ -9,6 +9,7 @@ use Rattle.codec.specs.Numbers.{overwritten}
 use Rattle.codec.specs.Trees.{Tree}
 use Rattle.schema.specs.Automata.{Automaton, accepts}
 use Rattle.schema.specs.Live.{LivePath}
+use Rattle.search.specs.Paths.{Path, word_of}
 use Rattle.compare.specs.declared.area.Area.{Area}
 use Rattle.compare.specs.declared.claim.Numbers.{Numbers}
 use Rattle.compare.specs.declared.conclude.Concluded.{Concluded}
@@ -19,9 +20,10 @@ use Rattle.compare.specs.declared.phase.Phase.TheVariants as phase
 use Rattle.compare.specs.Breaking.{Broken, ToldApart}
 use Rattle.compare.specs.Invariant.{StatePath}
 use Rattle.compare.specs.Trailing.{broken_index}
+use Rattle.compare.specs.Listing.{pair_links}
 use Rattle.compare.specs.Pairs.{start}
 use Rattle.compare.specs.View.{view, held_by}
-use Rattle.document.specs.Documents.{Way, symbols_of, DocumentOf}
+use Rattle.document.specs.Documents.{DocumentOf}
 use Rattle.history.specs.Calls.{Handed, first_automaton, second_automaton, Same, Call, take_up, oust, step, conclude, trail, document, give_up, same_numbers, is_inclusion, is_writing, told}
 use Rattle.history.specs.Comparisons.{Comparison, own_call, StepsOverItsOwn, GrantedAllPairs, IsHolder, NeitherOustedNorGivenUp, ApartAndHolder, HasVerdict, ConcludesNow, DocumentRefused, AnotherBegan, OwnNow}
 
@@ -63,12 +65,12 @@ pub record Right (A B : Automaton) (v : Concluded) : Type 0 where
   -- and the kind is that of a broken pair that both reach
   pub kind : ReachesBroken A B v
 
--- the symbols of the way stand at the output's front, and so many were answered
-pub record SymbolsWritten (way : List Listed) (o : List ℕ) (size : ℕ) (o' : List ℕ) : Type 0 where
-  pub answer : size ≡ length way
-  pub bytes : o' ≡ overwritten o 0 (symbols_of way)
+-- the word of the path stand at the output's front, and so many were answered
+pub record SymbolsWritten (path : List Listed) (o : List ℕ) (size : ℕ) (o' : List ℕ) : Type 0 where
+  pub answer : size ≡ length path
+  pub bytes : o' ≡ overwritten o 0 (word_of pair_links path)
 
--- a list of pairs in which one is broken, and the way to that one
+-- a list of pairs in which one is broken, and the path to that one
 pub record BrokenInList (g : Handed) : Type 0 where
   -- the list, with (0, 0) first
   pub pairs : List Listed
@@ -79,43 +81,45 @@ pub record BrokenInList (g : Handed) : Type 0 where
   pub at : slice_get pairs index ≡ Some entry
   pub kind : Kind
   pub broken : Broken (first_automaton g) (second_automaton g) kind entry.first entry.second
-  -- this way leads to it from (0, 0) along the links of the list
-  pub way : List Listed
-  pub leads : Way pairs index way
+  -- this path leads to it from (0, 0) along the links of the list
+  pub path : List Listed
+  pub leads : Path pair_links pairs index path
   -- by symbols that are live in the first automaton
-  pub live : LivePath (first_automaton g) 0 (symbols_of way) entry.first
+  pub live : LivePath (first_automaton g) 0 (word_of pair_links path) entry.first
   -- and lead in the second too
-  pub beside : StatePath (second_automaton g) 0 (symbols_of way) entry.second
+  pub beside : StatePath (second_automaton g) 0 (word_of pair_links path) entry.second
 
--- the bytes of a tree stand at the output's front, and so many were answered: it is built along the way
--- to the broken pair, and accepted by the first automaton alone
-pub record TreeWritten (g : Handed) (b : BrokenInList g) (o : List ℕ) (size : ℕ) (o' : List ℕ) : Type 0 where
+-- the bytes of a tree stand at the output's front, and so many were answered: it is built along the
+-- path to the broken pair, and accepted by the first automaton alone
+pub record DocumentWritten (g : Handed) (b : BrokenInList g) (o : List ℕ) (size : ℕ) (o' : List ℕ) : Type 0 where
   pub tree : Tree
-  pub document : DocumentOf (first_automaton g) (second_automaton g) b.kind b.pairs b.index b.way tree
+  pub document : DocumentOf (first_automaton g) (second_automaton g) b.kind b.pairs b.index b.path tree
   pub first : accepts (first_automaton g) 0 tree ≡ true
   pub second : accepts (second_automaton g) 0 tree ≡ false
   pub answer : size ≡ length (tree_bytes tree)
   pub bytes : o' ≡ overwritten o 0 (tree_bytes tree)
 
--- an accepted trail call with these numbers wrote the symbols of the way; nothing is said of other calls
+-- an accepted trail call with these numbers wrote the word of the path; nothing is said of other
+-- calls
 abbrev pub WritesTrail : Numbers → List Listed → Call → Type 0
-WritesTrail n way (trail m o (Ok size) o') = same_numbers n m ≡ true → SymbolsWritten way o size o'
-WritesTrail n way d = Unit {0}
+WritesTrail n path (trail m o (Ok size) o') = same_numbers n m ≡ true → SymbolsWritten path o size o'
+WritesTrail n path d = Unit {0}
 
--- an accepted document call with these numbers and schemas wrote the tree along the way; nothing is said
--- of other calls
+-- an accepted document call with these numbers and schemas wrote the tree along the path; nothing
+-- is said of other calls
 abbrev pub WritesDocument : Numbers → (g : Handed) → BrokenInList g → Call → Type 0
 WritesDocument n g b (document m h slots levels o (Ok size) o') =
-    same_numbers n m ≡ true → Same g h → TreeWritten g b o size o'
+    same_numbers n m ≡ true → Same g h → DocumentWritten g b o size o'
 WritesDocument n g b d = Unit {0}
 
--- what the comparison of these schemas and numbers has written by a list of calls, which leave the area so
+-- what the comparison of these schemas and numbers has written by a list of calls, which leave the
+-- area so
 pub record WroteBy (g : Handed) (n : Numbers) (calls : List Call) (now : Area) : Type 0 where
   -- it listed pairs, and came to one that is broken
   pub found : BrokenInList g
-  -- each accepted trail call of it wrote the symbols of the way to that pair
-  pub trails : AllByRecursion (WritesTrail n found.way) calls
-  -- each accepted document call of it that was handed its schemas wrote the tree along that way
+  -- each accepted trail call of it wrote the word of the path to that pair
+  pub trails : AllByRecursion (WritesTrail n found.path) calls
+  -- each accepted document call of it that was handed its schemas wrote the tree along that path
   pub documents : AllByRecursion (WritesDocument n g found) calls
   -- while its claim is the holder, the area is apart by that kind
   pub apart : held_by (view now) n.serial ≡ true → (view now).phase ≡ phase.Apart found.kind
@@ -154,7 +158,7 @@ pub record EveryHistory (a : Area) : Type 0 where
       Right (first_automaton c.schemas) (second_automaton c.schemas) v
   -- the conclusion counts as many pairs as its own accepted steps have told, added up
   pub counted : (c : Comparison a) → (v : Concluded) → ConcludesNow c v → count_of v ≡ told c.claim c.since
-  -- where its own steps were handed its schemas, what it has written is built along one way, and
+  -- where its own steps were handed its schemas, what it has written is built along one path, and
   -- tells them apart
   pub written : (c : Comparison a) → StepsOverItsOwn c → own_call c is_writing ≡ true → Wrote c
   -- concluded apart, and as long as its claim is the holder, the area is apart
