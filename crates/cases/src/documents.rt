@@ -6,10 +6,7 @@ use crate::trims::{FILLING, is_as_found};
 use api::{
     Area, Cursor, Domain, LEVELS, Level, Numbers, Refusal, RowPair, Schema, Spot, check, document,
 };
-use notation::filled::filled;
-use notation::levels::levels;
-use notation::row_pairs::row_pairs;
-use notation::spots::spots;
+use notation::memory::{CHECK_LEVEL, DOCUMENT_LEVEL, SEARCH_PAIR, filled};
 use notation::trouble::Trouble;
 use notation::words::Words;
 
@@ -28,9 +25,9 @@ impl Document {
     pub fn read<'a>(words: &mut Words<'a>, claim: Numbers) -> Result<Document, Trouble<'a>> {
         Ok(Document {
             claim,
-            scratch: row_pairs(words.heap, words.number()? as usize)?,
-            spots: spots(words.heap, words.number()? as usize)?,
-            levels: levels(words.heap, LEVELS)?,
+            scratch: filled(words.heap, words.number()? as usize, SEARCH_PAIR)?,
+            spots: filled(words.heap, words.number()? as usize, DOCUMENT_LEVEL)?,
+            levels: filled(words.heap, LEVELS, CHECK_LEVEL)?,
             output: filled(words.heap, words.number()? as usize, FILLING)?,
         })
     }

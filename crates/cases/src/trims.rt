@@ -3,7 +3,7 @@
 use crate::answer::Answer;
 use crate::trees::Asked;
 use api::{Domain, Refusal};
-use notation::outputs::Outputs;
+use notation::memory::Outputs;
 use notation::schemas::Tables;
 use notation::trouble::Trouble;
 use notation::words::Words;

@@ -1,8 +1,12 @@
 -- What it means that an engine lacks something of a maker's. Assumes nothing.
-use Rattle.std.specs.Prelude.{◌≡◌, ℕ, ◌^◌, ◌<◌, Bool, true, false, Some, None, Option}
+use Rattle.std.specs.Prelude.{◌≡◌, ℕ, ◌-◌, ◌^◌, ◌<◌, Bool, true, false, if◌then◌else◌, nat_lt, Some, None, Option}
 use Rattle.mikadofir.specs.declared.domains.Member.{Member}
 
--- m is the name of a value that the maker has and the engine has not, and the engine has all that the maker has below it
+-- what a value of a joint domain stands for, by what those of its two halves do
+abbrev pub by_half : (ℕ → Member) → (ℕ → Member) → ℕ → Member
+by_half left right v = (if nat_lt v (2 ^ 31) then left v else right (v - 2 ^ 31))
+
+-- m names the first value that the maker has and the engine has not
 pub record FirstLacking (maker engine : ℕ → Bool) (names : ℕ → Member) (m : Member) : Type 0 where
   pub value : ℕ
   pub named : m ≡ names value
