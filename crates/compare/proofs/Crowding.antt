@@ -3,8 +3,8 @@ use Rattle.std.proofs.Common.{◌≡◌, ℕ, zero, suc, ◌+◌, ◌*◌, ◌/�
 use Rattle.std.proofs.lemmas.Nat.{mul-add-lt, div-mul-add, mod-mul-add}
 use Rattle.std.proofs.lemmas.List.{take_all, take_more}
 use Rattle.std.proofs.lemmas.Bool.{or_left}
-use Rattle.schema.specs.Below.{count_below}
-use Rattle.schema.proofs.Counting.{count_le, count_grows}
+use Rattle.bits.specs.Below.{count_below}
+use Rattle.bits.proofs.Counting.{count_le, count_grows}
 use Rattle.compare.specs.declared.pairs.Listed.{Listed}
 use Rattle.compare.specs.Pairs.{blank, listed, Fits}
 use Rattle.compare.proofs.Standing.{listed_push, listed_new}

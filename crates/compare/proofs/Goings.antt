@@ -1,7 +1,7 @@
 -- The area after an unbroken pair, and live symbols where every symbol is permitted. Assumes nothing.
 use Rattle.std.proofs.Common.{◌≡◌, ℕ, ◌<◌, Bool, cond, List, length, Decides, sym, ap, ◌∙◌, subst}
 use Rattle.std.proofs.lemmas.Bool.{eq-eqb, ne_eqb}
-use Rattle.domain.specs.Kinds.{bit}
+use Rattle.bits.specs.Bits.{bit}
 use Rattle.schema.specs.Automata.{Automaton}
 use Rattle.schema.specs.Live.{LiveMask, LiveSymbol}
 use Rattle.compare.specs.declared.pairs.Listed.{Listed}

@@ -2,7 +2,7 @@
 use Rattle.std.proofs.Common.{◌≡◌, ℕ, ◌<◌, Bool, true, not, List, is_some, Some, None, Decides, Option, sym, refl, ◌∙◌}
 use Rattle.std.proofs.ByRecursion.{All-weaker}
 use Rattle.std.proofs.lemmas.Bool.{false≢true, not-true, not_from_false}
-use Rattle.domain.specs.Kinds.{bit}
+use Rattle.bits.specs.Bits.{bit}
 use Rattle.schema.specs.Automata.{Automaton, passes, allowed}
 use Rattle.schema.specs.Live.{LiveMask}
 use Rattle.schema.proofs.Holding.{live_of_over, over_of_live}

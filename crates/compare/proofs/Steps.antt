@@ -3,8 +3,8 @@ use Rattle.std.proofs.Common.{◌≡◌, ℕ, ◌+◌, ◌*◌, ◌^◌, ◌<◌
 use Rattle.std.proofs.lemmas.Nat.{mul-le}
 use Rattle.std.proofs.lemmas.List.{get_or_append_left, get_or_push, get_or-replicate, get_or-set_other, get_or-set_same, length-replicate, length-set, length-take-le, take_all, take-append-le, take_more_set}
 use Rattle.std.proofs.lemmas.Bool.{cases_Bool, cases_eq, cases_lt}
-use Rattle.domain.specs.Kinds.{bit}
-use Rattle.schema.proofs.Members.{bit_zero, none_past}
+use Rattle.bits.specs.Bits.{bit}
+use Rattle.bits.proofs.Members.{bit_zero, none_past}
 use Rattle.search.proofs.Listing.{listed_more}
 use Rattle.compare.specs.declared.pairs.Listed.{Listed}
 use Rattle.compare.specs.Pairs.{blank, is_of, listed, kept_pairs, Fits, Kept}

@@ -1,6 +1,6 @@
 -- The list of pairs of states of a work area: what is kept of it at every moment, and what listing one more leaves. Assumes nothing.
 use Rattle.std.specs.Prelude.{◌≡◌, ℕ, zero, suc, ◌^◌, ◌<◌, ◌≤◌, Bool, true, false, cond, not, ◌&&◌, ◌||◌, List, [], ◌∷◌, ◌++◌, length, get_or, take, ◌==◌, nat_le, nat_lt, slice_index, slice_index_or}
-use Rattle.domain.specs.Kinds.{bit}
+use Rattle.bits.specs.Bits.{bit}
 use Rattle.compare.specs.declared.pairs.Listed.{Listed}
 
 -- every number below n passes

@@ -1,6 +1,6 @@
 //! The work area: one comparison at a time, with the pairs that it has listed and how many of them are examined.
 ghost use Rattle.std.specs.Prelude.{◌≡◌, false, ◌==◌};
-ghost use Rattle.domain.specs.Kinds.{bit};
+ghost use Rattle.bits.specs.Bits.{bit};
 ghost use Rattle.compare.specs.Beginning.{«kept_from»};
 ghost use Rattle.compare.specs.Concluding.{claim_refusal};
 ghost use Rattle.compare.specs.Refusals.{Refuses, phase_refuses};
@@ -14,7 +14,7 @@ use crate::event::{Decision, Event, decide};
 use crate::pairs::{Listed, Pairs};
 use crate::phase::{Phase, Verdict};
 use refusal::fault::{Fault, Refusal};
-use schema::sets::has_member;
+use bits::sets::has_member;
 use schema::tested::Tested;
 
 /// A work area. What is said of it says all: nothing stays in it of an earlier comparison.

@@ -1,7 +1,7 @@
 //! Examining the listed pairs, one after the other.
 ghost use Rattle.std.specs.Prelude.{◌≡◌, ℕ, ◌<◌, ◌≤◌, ◌&&◌, length, if◌then◌else◌, ◌==◌};
 ghost use Rattle.schema.specs.Tables.{tables, sets};
-ghost use Rattle.domain.specs.Kinds.{bit};
+ghost use Rattle.bits.specs.Bits.{bit};
 ghost use Rattle.compare.specs.Deciding.{StepsAsDecided};
 ghost use Rattle.compare.specs.Growing.{StepsGrown, GrownSame};
 ghost use Rattle.compare.specs.Listing.{entries_of, FewPairs};
@@ -21,7 +21,7 @@ use crate::phase::{Phase, Verdict};
 use domain::domain::Domain;
 use refusal::fault::{Fault, Refusal};
 use schema::live::ALL_SYMBOLS;
-use schema::sets::has_member;
+use bits::sets::has_member;
 use schema::tables::Schema;
 use schema::tested::Tested;
 use search::pairs::{ROW_PAIRS, RowPair};

@@ -3,7 +3,7 @@
 use Rattle.std.proofs.Common.{◌≡◌, ℕ, ◌<◌, ◌↔◌, Bool, true, false, not, List, Some, None, Decides, Option, sym, ◌∙◌}
 use Rattle.std.proofs.ByRecursion.{All-weaker}
 use Rattle.std.proofs.lemmas.Bool.{and_parts, both_ways, not-true, not_from_false}
-use Rattle.domain.specs.Kinds.{bit}
+use Rattle.bits.specs.Bits.{bit}
 use Rattle.domain.specs.Sets.{Smallest, alone}
 use Rattle.schema.specs.Automata.{Automaton, passes}
 use Rattle.schema.specs.Live.{LiveMask, LiveSequence}

@@ -5,7 +5,7 @@ use Rattle.std.specs.List.{AllByRecursion}
 use Rattle.std.proofs.lemmas.Bool.{and_from}
 use Rattle.std.proofs.lemmas.Option.{same_Some}
 use Rattle.codec.specs.Trees.{Tree, node, Children, none, child, word, height, heights}
-use Rattle.domain.specs.Kinds.{bit}
+use Rattle.bits.specs.Bits.{bit}
 use Rattle.domain.specs.Sets.{Smallest}
 use Rattle.schema.specs.Automata.{Automaton}
 use Rattle.schema.specs.Live.{Live, LiveMask, LiveSequence, Rank}

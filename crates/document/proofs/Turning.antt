@@ -10,7 +10,7 @@ use Rattle.codec.specs.Encoding.{tree_bytes, children_bytes}
 use Rattle.codec.specs.Numbers.{number_bytes}
 use Rattle.codec.specs.Piles.{Stack, Pushed, Popped}
 use Rattle.codec.specs.Trees.{Tree, node, Children, none, child, word, many}
-use Rattle.domain.specs.Kinds.{bit}
+use Rattle.bits.specs.Bits.{bit}
 use Rattle.schema.specs.Automata.{Automaton}
 use Rattle.schema.specs.Live.{LiveMask}
 use Rattle.search.proofs.Orders.{one_first}

@@ -3,7 +3,7 @@ use Rattle.std.specs.Prelude.{◌≡◌, ℕ, ◌+◌, ◌<◌, Bool, true, List
 use Rattle.codec.specs.Encoding.{tree_bytes}
 use Rattle.codec.specs.Numbers.{number_bytes}
 use Rattle.codec.specs.Trees.{Tree}
-use Rattle.domain.specs.Kinds.{bit}
+use Rattle.bits.specs.Bits.{bit}
 use Rattle.domain.specs.Sets.{Smallest}
 use Rattle.schema.specs.Automata.{Automaton}
 use Rattle.schema.specs.Live.{LiveMask, Rank, Ranked}

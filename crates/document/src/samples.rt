@@ -2,7 +2,7 @@
 ghost use Rattle.std.specs.Prelude.{◌≡◌, ℕ, ◌+◌, ◌<◌, ◌≤◌, true, List, length, map, min, sum, Some, None, Decides, MatchOption, nat_lt, slice_index};
 ghost use Rattle.codec.specs.Encoding.{children_bytes};
 ghost use Rattle.codec.specs.Trees.{Children, word as word_of, Tree};
-ghost use Rattle.domain.specs.Kinds.{bit};
+ghost use Rattle.bits.specs.Bits.{bit};
 ghost use Rattle.schema.specs.Automata.{Automaton, passes};
 ghost use Rattle.schema.specs.Live.{Rank, Ranked};
 ghost use Rattle.schema.specs.Tables.{automaton_of};
@@ -18,7 +18,7 @@ use codec::pile::Pile;
 use domain::domain::Domain;
 use schema::faults::STATE_ROWS;
 use schema::live::Ranks;
-use schema::sets::gather;
+use bits::gathering::gather;
 use schema::tables::STATES;
 use schema::tested::Tested;
 use search::pairs::RowPair;

@@ -13,7 +13,7 @@ use compare::compared::Compared;
 use compare::pairs::{Listed, Pairs};
 use compare::phase::Kind;
 use domain::domain::Domain;
-use schema::sets::has_member;
+use bits::sets::has_member;
 use schema::tested::Tested;
 use search::pairs::{ROW_PAIRS, RowPair};
 use search::search::Question;

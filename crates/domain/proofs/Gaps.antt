@@ -1,4 +1,5 @@
--- The smallest value that one list of ranges has alone begins one of its ranges, or follows one of the other's. Assumes nothing.
+-- The smallest value that one list of ranges has alone begins one of its ranges, or follows one of
+-- the other's. Assumes nothing.
 use Rattle.std.proofs.Common.{◌≡◌, ℕ, zero, suc, ◌<◌, ◌≤◌, Bool, true, List, length, Option, ⊎_elim, arith}
 use Rattle.std.proofs.lemmas.Bool.{and_parts, and_from, both_ways, cases_Bool, cases_lt, eq-eqb, leb-true, le-leb, not-true, not_from_false, or_cases, or_left, or_right}
 use Rattle.domain.specs.declared.coverage.Range.{Range}

@@ -1,4 +1,3 @@
-pub mod Digits
 pub mod Gaps
 pub mod Making
 pub mod Ranges

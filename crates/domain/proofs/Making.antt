@@ -1,11 +1,12 @@
--- Ranges tested one after the other against the rule, and that making a coverage has one answer. Assumes nothing.
+-- Ranges tested one after the other against the rule, and that making a coverage has one answer.
+-- Assumes nothing.
 use Rattle.std.proofs.Common.{◌≡◌, ℕ, ◌+◌, ◌-◌, ◌<◌, ◌≤◌, List, ◌++◌, length, take, drop, replicate, Ok, Err, sym, refl, ap, ◌∙◌, ⊎_elim, arith, below_more}
 use Rattle.std.proofs.lemmas.List.{take_all, take-append-le, drop-replicate}
 use Rattle.std.proofs.lemmas.Bool.{cases_order}
 use Rattle.refusal.specs.declared.fault.Refusal.{Refusal}
 use Rattle.domain.specs.declared.coverage.Range.{Range}
 use Rattle.domain.specs.declared.coverage.Coverage.{Coverage}
-use Rattle.domain.specs.Making.{unused, at, Follows, Breaks, Accepts, Refuses, OneAnswer}
+use Rattle.domain.specs.Making.{unused, at, Follows, Breaks, Accepts, RefusedFor, OneAnswer, MakingLaws}
 
 -- the first k ranges follow the rule, and the next may begin from `free` on
 pub record Sofar (rs : List Range) (k free : ℕ) : Type 0 where
@@ -39,7 +40,7 @@ module _ (rs : List Range) where
   fewer k n le f =
       record { ordered = λ i h. f.ordered i (omega arith); inside = λ i h. f.inside i (omega arith); apart = λ i j h l. f.apart i j h (omega arith) }
 
-  not_both : (c : Coverage) (e : Refusal) → Accepts rs c → Refuses rs e → ⊥
+  not_both : (c : Coverage) (e : Refusal) → Accepts rs c → RefusedFor rs e → ⊥
   not_both c e a =
       ⊎_elim (λ r. omega (arith, r.0, a.few)) (λ r. r.1.broken (fewer (e.place + 1) (length rs) (omega (arith, r.1.listed)) a.rule))
 
@@ -50,7 +51,7 @@ module _ (rs : List Range) where
       (⊎_elim (λ l. absurd (a.broken (fewer (j + 1) k (omega arith) b.before))) (λ l. absurd (b.broken (fewer (k + 1) j (omega arith) a.before))))
       (cases_order j k)
 
-  one_refusal : (e f : Refusal) → Refuses rs e → Refuses rs f → e ≡ f
+  one_refusal : (e f : Refusal) → RefusedFor rs e → RefusedFor rs f → e ≡ f
   one_refusal e f =
       ⊎_elim
       (λ many. ⊎_elim (λ r. many.1 ∙ sym r.1) (λ r. absurd (omega (arith, many.0, r.0))))
@@ -71,8 +72,11 @@ written rs ys few rule same =
       whole = λ i. record { ranges = table i; count = length rs };
     }
 
-pub one_answer : OneAnswer
+one_answer : OneAnswer
 one_answer rs (Ok c) (Ok d) a b = ap Ok (a.whole ∙ sym b.whole)
 one_answer rs (Ok c) (Err e) a b = absurd (not_both rs c e a b)
 one_answer rs (Err e) (Ok c) a b = absurd (not_both rs c e b a)
 one_answer rs (Err e) (Err f) a b = ap Err (one_refusal rs e f a b)
+
+pub making_laws : MakingLaws
+making_laws = record { one = one_answer; limits = record { ranges = refl; last = refl; middle = refl } }

@@ -14,7 +14,8 @@ smallest_of_same p q (Some m) same s =
     }
 smallest_of_same p q None same s = λ v h. sym (same v h) ∙ s v h
 
--- a set has the smallest value of a part of it, if below or at each member there is one of that part
+-- a set has the smallest value of a part of it, if below or at each member there is one of that
+-- part
 pub smallest_of_part : (p q : ℕ → Bool) (r : Option ℕ) → ((v : ℕ) → p v ≡ true → q v ≡ true) → ((v : ℕ) → q v ≡ true → (u : ℕ) × (u ≤ v) × (p u ≡ true)) → Smallest p r → Smallest q r
 smallest_of_part p q r within down s = by r s
   where

@@ -1,20 +1,14 @@
 -- The three kinds of domain: which values each has. Assumes nothing.
-use Rattle.std.specs.Prelude.{ℕ, ◌+◌, ◌-◌, ◌/◌, ◌%◌, ◌^◌, Bool, false, cond, ◌&&◌, ◌||◌, List, [], ◌∷◌, take, ◌==◌, nat_le, nat_lt}
+use Rattle.std.specs.Prelude.{ℕ, ◌+◌, ◌-◌, Bool, false, cond, ◌&&◌, ◌||◌, List, [], ◌∷◌, take, ◌==◌, nat_le, nat_lt}
+use Rattle.bits.specs.Bits.{bit}
 use Rattle.domain.specs.declared.keywords.Keywords.{Keywords}
 use Rattle.domain.specs.declared.coverage.Range.{Range}
 use Rattle.domain.specs.declared.coverage.Coverage.{Coverage}
+use Rattle.domain.specs.declared.joint.TheConstants.{MIDDLE}
 
--- bit i of a number, bit 0 the lowest
-abbrev pub bit : ℕ → ℕ → Bool
-bit bits i = bits / 2 ^ i % 2 == 1
-
--- the value i, below 64, is in the set that the bits say when bit i is set
-abbrev pub in_bits : ℕ → ℕ → Bool
-in_bits bits v = nat_lt v 64 && bit bits v
-
--- keywords: 64 bits
+-- keywords: the value i, below 64, is a member when bit i is set
 abbrev pub has_keyword : Keywords → ℕ → Bool
-has_keyword k v = in_bits k.bits v
+has_keyword k v = nat_lt v 64 && bit k.bits v
 
 -- both ends of a range are in it
 abbrev pub in_range : Range → ℕ → Bool
@@ -41,6 +35,6 @@ ranges_of c = take c.count c.ranges
 abbrev pub has_letter : Coverage → ℕ → Bool
 has_letter c v = some in_range (ranges_of c) v
 
--- joint: below 2,147,483,648 the left set answers, and from there on the right one, less that number
+-- joint: below the middle the left set answers, and from there on the right one, less the middle
 abbrev pub joined : (ℕ → Bool) → (ℕ → Bool) → ℕ → Bool
-joined left right v = cond (nat_lt v 2147483648) (left v) (right (v - 2147483648))
+joined left right v = cond (nat_lt v MIDDLE) (left v) (right (v - MIDDLE))

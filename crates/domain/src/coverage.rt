@@ -34,7 +34,7 @@ impl Range {
 }
 
 /// A set of code points: the first `count` of the ranges are in use.
-// An array with its count beside it: a coverage lies plain in a list that the caller lends, and library calls allocate nothing.
+// An array with its count beside it: a coverage lies plain in a list that the caller lends.
 #[derive(Clone, Copy, Debug, PartialEq, Eq)]
 pub struct Coverage {
     ranges: [Range; RANGES],
@@ -63,15 +63,19 @@ impl Coverage {
 
     /// The value, where this coverage has it and the other has not.
     fn only(&self, other: &Coverage, value: u32) -> Option<u32>
-        ensures { Smallest (both (alone (has_letter self.now) (has_letter other.now)) (nat_eq value)) result }
+        ensures { Smallest
+            (both (alone (has_letter self.now) (has_letter other.now)) (nat_eq value)) result }
     {
         (self.has(value) && !other.has(value)).then_some(value)
     }
 
     /// The smallest value in this coverage alone at which one of its ranges begins.
-    // One loop for this one, the next and `least` would take the candidate as a closure, and its contract what each closure gives of each range.
     fn begins_alone(&self, other: &Coverage) -> Option<u32>
-        ensures { Smallest (both (alone (has_letter self.now) (has_letter other.now)) (some begins (ranges_of self.now))) result }
+        ensures { Smallest
+            (both
+            (alone (has_letter self.now) (has_letter other.now))
+            (some begins (ranges_of self.now)))
+            result }
     {
         let mut best = None;
         for range in self.used() {
@@ -82,7 +86,11 @@ impl Coverage {
 
     /// The smallest value in this coverage alone that is one past a range of the other.
     fn follows_alone(&self, other: &Coverage) -> Option<u32>
-        ensures { Smallest (both (alone (has_letter self.now) (has_letter other.now)) (some follows (ranges_of other.now))) result }
+        ensures { Smallest
+            (both
+            (alone (has_letter self.now) (has_letter other.now))
+            (some follows (ranges_of other.now)))
+            result }
     {
         let mut best = None;
         for range in other.used() {
@@ -98,7 +106,6 @@ impl Domain for Coverage {
     ghost holds = { has_letter };
 
     fn has(&self, value: u32) -> bool {
-        // a loop and no `any`: each of the three answers goes over the ranges in use, in one form
         for range in self.used() {
             if range.has(value) {
                 return true;
@@ -115,7 +122,8 @@ impl Domain for Coverage {
         best
     }
 
-    // The smallest value that this coverage has alone begins one of its ranges, or follows one of the other's.
+    // The smallest value that this coverage has alone begins one of its ranges, or follows one of
+    // the other's.
     fn gap(&self, other: &Coverage) -> Option<u32> {
         smaller(self.begins_alone(other), self.follows_alone(other))
     }

@@ -5,7 +5,8 @@ ghost use Rattle.domain.specs.Sets.{Smallest};
 
 use crate::domain::Domain;
 
-/// The first value that the right domain answers for. What either domain has from here on is not in the joint.
+/// The first value that the right domain answers for. What either domain has from here on is not in
+/// the joint.
 pub const MIDDLE: u32 = 2_147_483_648;
 
 /// A left and a right domain, each of any kind.
@@ -17,7 +18,9 @@ pub struct Joint<L, R> {
 
 /// The smallest value of two halves, from the smallest value of each set.
 fn lower(left: Option<u32>, right: Option<u32>) -> Option<u32>
-    ensures { (p q : ℕ → Bool) → Smallest p left → Smallest q right → Smallest (joined p q) result }
+    ensures { (p q : ℕ → Bool) → Smallest p left →
+        Smallest q right →
+        Smallest (joined p q) result }
 {
     let low = left.filter(|value| *value < MIDDLE);
     let high = right.filter(|value| *value < MIDDLE);

@@ -1,4 +1,5 @@
-//! Value domains: fixed sets of values that say what they have, their least value, and what another lacks.
+//! Value domains: fixed sets of values that say what they have, their least value, and what another
+//! lacks.
 #![tactic(auto)]
 
 pub mod coverage;

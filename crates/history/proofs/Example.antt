@@ -3,8 +3,8 @@ use Rattle.std.proofs.Common.{◌≡◌, ℕ, zero, suc, ◌+◌, ◌^◌, ◌<�
 use Rattle.std.proofs.lemmas.List.{length-replicate, get_or-replicate}
 use Rattle.std.proofs.lemmas.Bool.{false≢true, ne_eqb}
 use Rattle.codec.specs.Numbers.{overwritten}
-use Rattle.domain.specs.Kinds.{bit}
-use Rattle.schema.proofs.Members.{added, bit_zero}
+use Rattle.bits.specs.Bits.{bit}
+use Rattle.bits.proofs.Members.{added, bit_zero}
 use Rattle.compare.specs.declared.area.Area.{Area}
 use Rattle.compare.specs.declared.pairs.Listed.{Listed}
 use Rattle.compare.specs.declared.pairs.Pairs.{Pairs}

@@ -15,7 +15,7 @@ use Rattle.refusal.specs.Faults.{number}
 use Rattle.schema.specs.Automata.{Automaton, allowed}
 use Rattle.schema.specs.Live.{Live, LiveSequence, LiveSymbol}
 use Rattle.schema.specs.Tables.{Tables}
-use Rattle.schema.proofs.Members.{bit_zero}
+use Rattle.bits.proofs.Members.{bit_zero}
 use Rattle.schema.proofs.Dead.{leads_back_dead}
 use Rattle.schema.proofs.Onward.{live_leads}
 use Rattle.schema.proofs.Sound.{sound}

@@ -1,4 +1,5 @@
--- Every word has at most ten letters: one test that antt computes over the whole table. Assumes nothing.
+-- Every word has at most ten letters: one test that antt computes over the whole table. Assumes
+-- nothing.
 use Rattle.std.proofs.Common.{ℕ, ◌≤◌, Bool, true, ◌&&◌, leb, List, [], ◌∷◌, length, sym, refl, subst, ⊎_elim, lit≤}
 use Rattle.std.specs.List.{AllByRecursion}
 use Rattle.std.proofs.ByRecursion.{All-get_or, Decides-by_and}

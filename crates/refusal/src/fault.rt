@@ -36,7 +36,8 @@ pub enum Layer {
     Bytes,
 }
 
-/// A fault and its place. What the place counts depends on the fault: docs/refusals.md has the list.
+/// A fault and its place. What the place counts depends on the fault: docs/refusals.md has the
+/// list.
 #[derive(Clone, Copy, Debug, PartialEq, Eq)]
 pub struct Refusal {
     pub fault: Fault,

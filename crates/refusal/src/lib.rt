@@ -1,4 +1,5 @@
-//! Why a call says no: the faults, the layer each belongs to, its word, and the refusal that carries one up.
+//! Why a call says no: the faults, the layer each belongs to, its word, and the refusal that
+//! carries one up.
 #![tactic(auto)]
 
 pub mod fault;

@@ -1,4 +1,5 @@
-//! That every refusal can be printed: the contracts say what is written, and not that a writer takes it.
+//! That every refusal can be printed: the contracts say what is written, and not that a writer
+//! takes it.
 use crate::fault::Fault;
 use std::test::Fail;
 

@@ -1,4 +1,5 @@
--- A tree is accepted exactly when its nodes can be bound to states, and then in one way only. Assumes nothing.
+-- A tree is accepted exactly when its nodes can be bound to states, and then in one way only.
+-- Assumes nothing.
 use Rattle.std.proofs.Common.{◌≡◌, ℕ, Bool, true, Some, None, Option, sym, refl, ap, ◌∙◌, subst}
 use Rattle.std.proofs.lemmas.Option.{same_Some}
 use Rattle.std.proofs.lemmas.Bool.{and_parts, and_from, false≢true}

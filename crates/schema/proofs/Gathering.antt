@@ -4,63 +4,15 @@ use Rattle.std.specs.List.{AllByRecursion}
 use Rattle.std.proofs.ByRecursion.{All-push}
 use Rattle.std.proofs.lemmas.Option.{none-some, same_Some}
 use Rattle.std.proofs.lemmas.Bool.{and_parts, and_from, and_right, both_ways, cases_Bool, cases_lt, eqb-true, eq-eqb, lt-ltb, not_from_false, or_cases, or_left, or_right}
-use Rattle.domain.specs.Kinds.{bit, in_bits}
-use Rattle.domain.specs.Sets.{Empty, First, alone}
+use Rattle.bits.specs.Bits.{bit, LowestMember, without}
+use Rattle.bits.specs.Gathering.{LedOnto}
+use Rattle.bits.proofs.Leading.{in_one_more, one_more_has}
 use Rattle.schema.proofs.Bound.{passed}
-use Rattle.schema.proofs.Members.{bit_zero}
+use Rattle.bits.proofs.Members.{bit_zero}
 use Rattle.schema.proofs.Searches.{some_found, some_tells}
 use Rattle.schema.specs.Automata.{Automaton, passes, row_runs}
 use Rattle.schema.specs.Below.{some_below}
-use Rattle.schema.specs.Rows.{onward, leads, AfterEdge, LedOnto, RowEdge, RunsOverFrom, LeadsOver, ReachedFrom}
-
--- a member of a set with one more
-pub in_one_more : (set more k i : ℕ) → bit more i ≡ (bit set i || (ltb k 64 && eqb k i)) → bit more i ≡ true → (bit set i ≡ true) ⊎ (k ≡ i)
-in_one_more set more k i adds there =
-    ⊎_elim inl (λ new. inr (eqb-true k i (and_parts (ltb k 64) (eqb k i) new).1)) (or_cases (bit set i) _ (sym adds ∙ there))
-
-pub one_more_keeps : (set more k i : ℕ) → bit more i ≡ (bit set i || (ltb k 64 && eqb k i)) → bit set i ≡ true → bit more i ≡ true
-one_more_keeps set more k i adds there = adds ∙ or_left (bit set i) _ there
-
-pub one_more_has : (set more k : ℕ) → bit more k ≡ (bit set k || (ltb k 64 && eqb k k)) → k < 64 → bit more k ≡ true
-one_more_has set more k adds inside = adds ∙ or_right (bit set k) _ (and_from _ _ (lt-ltb k 64 inside) (eq-eqb k k refl))
-
--- one number more, and where it leads
-module _ (Leads : ℕ → Option ℕ → Type 0) (before : ℕ) where
-  found_wider : (k i : ℕ) → (a : ℕ) × (a < k) × Leads a (Some i) → (a : ℕ) × (a < k + 1) × Leads a (Some i)
-  found_wider k i m = (m.0, omega (arith, m.1), m.2)
-
-  pub led_more : (k reached more : ℕ) (o : Option ℕ) (next : ℕ) → LedOnto Leads k before reached → Leads k o → o ≡ Some next → ((i : ℕ) → bit more i ≡ (bit reached i || (ltb next 64 && eqb next i))) → LedOnto Leads (k + 1) before more
-  led_more k reached more o next so here is adds =
-      record {
-        kept = λ i h. one_more_keeps reached more next i (adds i) (so.kept i h);
-        added = λ a low.
-            ⊎_elim
-            (λ l. let old = so.added a l in (old.0, old.1, λ i same inside. one_more_keeps reached more next i (adds i) (old.2 i same inside)))
-            (λ up.
-            let last : k ≡ a = omega (arith, low) in
-            (o, subst (λ (n : ℕ). Leads n o) last here, λ i same inside. let e : next ≡ i = same_Some _ _ (sym is ∙ same) in subst (λ (n : ℕ). bit more n ≡ true) e (one_more_has reached more next (adds next) (omega (arith, e, inside)))))
-            (cases_lt a k);
-        only = λ i h.
-            ⊎_elim
-            (λ old. ⊎_elim inl (λ m. inr (found_wider k i m)) (so.only i old))
-            (λ e. inr (k, omega arith, subst (Leads k) (is ∙ ap Some e) here))
-            (in_one_more reached more next i (adds i) h);
-      }
-
-  pub led_nowhere : (k reached : ℕ) (o : Option ℕ) → LedOnto Leads k before reached → Leads k o → o ≡ None → LedOnto Leads (k + 1) before reached
-  led_nowhere k reached o so here none =
-      record {
-        kept = so.kept;
-        added = λ a low.
-            ⊎_elim
-            (so.added a)
-            (λ up. let last : k ≡ a = omega (arith, low) in (o, subst (λ (n : ℕ). Leads n o) last here, λ i same inside. absurd (none-some i (sym none ∙ same))))
-            (cases_lt a k);
-        only = λ i h. ⊎_elim inl (λ m. inr (found_wider k i m)) (so.only i h);
-      }
-
-  pub led_all : (k n reached : ℕ) → k ≤ n → n ≤ k → LedOnto Leads k before reached → LedOnto Leads n before reached
-  led_all k n reached upto past so = let e : k ≡ n = omega arith in subst (λ (m : ℕ). LedOnto Leads m before reached) e so
+use Rattle.schema.specs.Rows.{onward, leads, AfterEdge, RowEdge, RunsOverFrom, LeadsOver, ReachedFrom}
 
 -- what the numbers below n lead to, where they lead along the edges from p
 pub edges_of_led : {Leads : ℕ → Option ℕ → Type 0} (Edge : ℕ → ℕ → ℕ → Type 0) (p n before after : ℕ) (step : ℕ → Option ℕ) → ((a j : ℕ) → Edge p a j → (a < n) × (step a ≡ Some j)) → ((a j : ℕ) → step a ≡ Some j → Edge p a j) → ((a : ℕ) (o : Option ℕ) → a < n → Leads a o → o ≡ step a) → LedOnto Leads n before after
@@ -72,7 +24,8 @@ edges_of_led Edge p n before after step leads edge told so =
       only = λ i h. ⊎_elim inl (λ m. inr (m.0, edge m.0 i (sym (told m.0 (Some i) m.1 m.2)))) (so.only i h);
     }
 
--- what a set gathers along edges from a number on: each has the property, which the edges carry over
+-- what a set gathers along edges from a number on: each has the property, which the edges carry
+-- over
 module _ (Edge : ℕ → ℕ → ℕ → Type 0) (Good : ℕ → Type 0) (from : ℕ) where
   -- on the way: the numbers done lead only to numbers reached
   pub record Partly (count reached done : ℕ) : Type 0 where
@@ -96,12 +49,12 @@ module _ (Edge : ℕ → ℕ → ℕ → Type 0) (Good : ℕ → Type 0) (from :
         just i h = ⊎_elim (λ old. absurd (both_ways (bit 0 i) (bit_zero i) old)) (λ e. e) (in_one_more 0 one from i (adds i) h)
 
     -- the next number to be done was reached
-    pub partly_here : (reached done row : ℕ) → Partly count reached done → First (alone (in_bits reached) (in_bits done)) row → (bit reached row ≡ true) × (row < count)
+    pub partly_here : (reached done row : ℕ) → Partly count reached done → LowestMember (without (bit reached) (bit done)) row → (bit reached row ≡ true) × (row < count)
     partly_here reached done row so least =
-        let here = (and_parts (ltb row 64) (bit reached row) (and_parts (in_bits reached row) _ least.passes).0).1 in
+        let here = (and_parts (bit reached row) _ least.member).0 in
         (here, so.inside row here)
 
-    pub partly_more : (reached done row done' reached' : ℕ) → Partly count reached done → First (alone (in_bits reached) (in_bits done)) row → ((i : ℕ) → bit done' i ≡ (bit done i || (ltb row 64 && eqb row i))) → AfterEdge Edge row reached reached' → Partly count reached' done'
+    pub partly_more : (reached done row done' reached' : ℕ) → Partly count reached done → LowestMember (without (bit reached) (bit done)) row → ((i : ℕ) → bit done' i ≡ (bit done i || (ltb row 64 && eqb row i))) → AfterEdge Edge row reached reached' → Partly count reached' done'
     partly_more reached done row done' reached' so least adds after =
         let here = partly_here reached done row so least in
         record {
@@ -116,13 +69,12 @@ module _ (Edge : ℕ → ℕ → ℕ → Type 0) (Good : ℕ → Type 0) (from :
         }
 
     -- where nothing is left to do, the numbers reached lead only to numbers reached
-    pub partly_done : (reached done : ℕ) → Partly count reached done → Empty (alone (in_bits reached) (in_bits done)) → (i a j : ℕ) → bit reached i ≡ true → Edge i a j → bit reached j ≡ true
+    pub partly_done : (reached done : ℕ) → Partly count reached done → ((i : ℕ) → i < 64 → without (bit reached) (bit done) i ≡ false) → (i a j : ℕ) → bit reached i ≡ true → Edge i a j → bit reached j ≡ true
     partly_done reached done so none i a j h e =
         let low = so.inside i h in
-        let in-reached : in_bits reached i ≡ true = and_from _ _ (lt-ltb i 64 (omega arith)) h in
         ⊎_elim
         (λ there. so.closed i a j there e)
-        (λ missing. absurd (both_ways (alone (in_bits reached) (in_bits done) i) (none i (omega arith)) (and_from _ _ in-reached (not_from_false _ (and_right (ltb i 64) _ missing)))))
+        (λ missing. absurd (both_ways (without (bit reached) (bit done) i) (none i (omega arith)) (and_from _ _ h (not_from_false _ missing))))
         (cases_Bool (bit done i))
 
 -- what is there under a test, and what is not
@@ -172,7 +124,8 @@ module _ (A : Automaton) (q : ℕ) (set : ℕ → Bool) where
       by (Some s) more is to = more s is to
       by None more is to = absurd (none-some i to)
 
-  -- whether a row that was reached may end decides whether some sequence over the set runs from there
+  -- whether a row that was reached may end decides whether some sequence over the set runs from
+  -- there
   pub ends_decide : (count : ℕ) → ((i a j : ℕ) → i < count → A.step q i a ≡ Some j → j < count) → (from rows : ℕ) → from < count → ReachedFrom A q set from rows → Decides (some_below count (λ i. bit rows i && A.ends q i)) (RunsOverFrom A q set from)
   ends_decide count stays from rows inside all = (
     λ found.

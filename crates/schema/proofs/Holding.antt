@@ -1,9 +1,10 @@
--- A symbol that a sequence holds leads from a row that was reached to one that goes on to an end. Assumes nothing.
+-- A symbol that a sequence holds leads from a row that was reached to one that goes on to an end.
+-- Assumes nothing.
 use Rattle.std.proofs.Common.{◌≡◌, ℕ, ◌<◌, Bool, true, ◌&&◌, List, [], ◌∷◌, ◌++◌, Some, Decides, sym, refl, ap, ◌∙◌, subst}
 use Rattle.std.specs.List.{AllByRecursion}
 use Rattle.std.proofs.ByRecursion.{All-append, All-weaker}
 use Rattle.std.proofs.lemmas.Bool.{and_parts, and_from}
-use Rattle.domain.specs.Kinds.{bit}
+use Rattle.bits.specs.Bits.{bit}
 use Rattle.schema.specs.Automata.{Automaton, passes, present, row_runs, has_next}
 use Rattle.schema.specs.Below.{some_below}
 use Rattle.schema.specs.Live.{Live, LiveMask, LiveSequence, LiveSymbol}

@@ -1,10 +1,8 @@
 pub mod Bound
 pub mod Chains
-pub mod Counting
 pub mod Dead
 pub mod Domains
 pub mod Holding
-pub mod Members
 pub mod Onward
 pub mod Either
 pub mod Gathering

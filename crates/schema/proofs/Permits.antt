@@ -1,14 +1,15 @@
--- Permitted symbols change the next states alone, which stay states, and where all are permitted nothing changes. Assumes nothing.
+-- Permitted symbols change the next states alone, which stay states, and where all are permitted
+-- nothing changes. Assumes nothing.
 use Rattle.std.proofs.Common.{◌≡◌, ℕ, ◌<◌, ◌≤◌, Bool, true, false, cond, not, ◌&&◌, ltb, List, [], ◌∷◌, Some, None, Option, bit_and, sym, refl, ap, ◌∙◌, ⊎_elim, arith}
 use Rattle.std.proofs.Math.Bool.{and-true}
 use Rattle.std.proofs.lemmas.Bool.{and_right, cases_lt, cond-true, cond-false, le-ltb, not-false}
-use Rattle.domain.specs.Kinds.{bit}
+use Rattle.bits.specs.Bits.{bit}
 use Rattle.schema.specs.Automata.{Automaton, passes, row_runs}
 use Rattle.schema.specs.Faults.{faulty}
 use Rattle.schema.specs.Permitted.{permit}
 use Rattle.schema.specs.Tables.{Tables, automaton, entry, transition_byte}
 use Rattle.schema.proofs.Gathering.{chosen_some}
-use Rattle.schema.proofs.Members.{bit-bit_and}
+use Rattle.bits.proofs.Members.{bit-bit_and}
 use Rattle.schema.proofs.Sound.{some_none, sound}
 
 module _ (permitted : ℕ → Bool) (A : Automaton) (q : ℕ) where

@@ -1,19 +1,20 @@
--- Rounds: what they find accepts a tree, their number is its rank, and where they find nothing more all live states are found. Assumes nothing.
+-- Rounds: what they find accepts a tree, their number is its rank, and where they find nothing more
+-- all live states are found. Assumes nothing.
 use Rattle.std.proofs.Common.{◌≡◌, ℕ, ◌+◌, ◌^◌, ◌<◌, ◌≤◌, Bool, true, false, cond, List, [], ◌∷◌, Some, None, Option, Decides, sym, refl, ap, ◌∙◌, subst, ⊎_elim, arith}
 use lib.Bits.{bit_or, or_lt}
 use Rattle.std.specs.List.{AllByRecursion, slice_get}
 use Rattle.std.proofs.ByRecursion.{All-weaker}
 use Rattle.std.proofs.lemmas.Bool.{and_parts, and_from, both_ways, cases_Bool, cases_eq, cases_lt, cond-true, cond-false, or_cases, or_left, or_parts, or_right}
 use Rattle.codec.specs.Trees.{Tree, node, Children, none, child, word, height, heights}
-use Rattle.domain.specs.Kinds.{bit}
-use Rattle.domain.proofs.Digits.{lowest_first}
+use Rattle.bits.specs.Bits.{bit}
+use Rattle.bits.proofs.Digits.{lowest_member}
 use Rattle.schema.specs.Automata.{Automaton, passes, present, row_runs, has_next, allowed, accepts, accepts_all}
-use Rattle.schema.specs.Below.{count_below}
+use Rattle.bits.specs.Below.{count_below}
 use Rattle.schema.specs.Live.{Found, New, Rank, Ranked}
 use Rattle.schema.specs.Rows.{RunsOverFrom}
 use Rattle.schema.proofs.Bound.{passed}
-use Rattle.schema.proofs.Counting.{count_le, count_full, count_grows}
-use Rattle.schema.proofs.Members.{bit_zero, bit-bit_or}
+use Rattle.bits.proofs.Counting.{count_le, count_full, count_grows}
+use Rattle.bits.proofs.Members.{bit_zero, bit-bit_or}
 
 -- two sets with the same members have the same sequences
 pub runs_over_same : (A : Automaton) (q r : ℕ) (set other : ℕ → Bool) → ((a : ℕ) → set a ≡ other a) → RunsOverFrom A q set r → RunsOverFrom A q other r
@@ -23,7 +24,8 @@ runs_over_same A q r set other same h = (h.0, All-weaker (λ a. set a ≡ true) 
 abbrev Below : Automaton → ℕ → ℕ → Type 0
 Below A m q = (t : Tree) × (accepts A q t ≡ true) × (height t < m)
 
--- after some rounds: the states that accept a tree lower than their number, and at each its rank is noted
+-- after some rounds: the states that accept a tree lower than their number, and at each its rank is
+-- noted
 pub record AfterRounds (A : Automaton) (n live : ℕ) (ranks : List (Option ℕ)) (rounds : ℕ) : Type 0 where
   pub small : live < 2 ^ 64
   pub exact : (q : ℕ) → Decides (bit live q) ((q < n) × Below A rounds q)
@@ -107,8 +109,8 @@ module _ (A : Automaton) (n : ℕ) (few : n ≤ 64) (inside : (q a s : ℕ) → 
     -- a round that finds something finds a state that was not there
     first_new : (found ≡ 0 → ⊥) → (j : ℕ) × (bit found j ≡ true) × (bit live j ≡ false) × (j < 64)
     first_new some =
-        let first = lowest_first found (positive found some) fits in
-        let there = (and_parts _ (bit found _) first.passes).1 in
+        let first = lowest_member found (positive found some) fits in
+        let there = first.member in
         let told = (round _).0 there in
         (_, there, told.1.0, omega (arith, told.0))
       where

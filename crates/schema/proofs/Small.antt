@@ -55,4 +55,5 @@ small_schemas =
             no_page_below l.0 l.1 (and_parts (row_runs A 1 0 w) (has_next A 1 w) l.2.0).1;
       };
       dead = leads_back_dead;
+      limits = record { symbols = refl; states = refl; rows = refl; domains = refl; rows_of_a_state = refl; bytes_of_a_state = refl; none = refl };
     }

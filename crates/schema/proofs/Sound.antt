@@ -1,4 +1,5 @@
--- What tables without a fault keep: states lead to states, and rows to rows of the same state. Assumes nothing.
+-- What tables without a fault keep: states lead to states, and rows to rows of the same state.
+-- Assumes nothing.
 use Rattle.std.proofs.Common.{◌≡◌, ℕ, zero, suc, ◌<◌, Bool, true, false, cond, ◌||◌, eqb, ltb, List, [], ◌∷◌, Some, None, Option, sym, refl, ◌∙◌, subst, ⊎_elim, arith}
 use Rattle.std.specs.Option.{option_map}
 use Rattle.std.proofs.lemmas.Option.{none-some, same_Some}

@@ -2,8 +2,8 @@
 use Rattle.std.specs.Prelude.{ℕ, Bool, true, false, ◌&&◌, List, [], ◌∷◌, Some, None, Option}
 use Rattle.codec.specs.Trees.{Tree, node, Children, none, child, word}
 
--- next q a: the state under symbol a; step q r a: the row after row r; ends q r: a sequence may end at row r; has q v: the domain of q
--- has the value v
+-- next q a: the state under symbol a; step q r a: the row after row r; ends q r: a sequence may end
+-- at row r; has q v: the domain of q has the value v
 pub record Automaton : Type 0 where
   pub next : ℕ → ℕ → Option ℕ
   pub step : ℕ → ℕ → ℕ → Option ℕ
@@ -31,12 +31,13 @@ module _ (A : Automaton) where
   has_next q [] = true
   has_next q (a ∷ w) = present (A.next q a) && has_next q w
 
-  -- a sequence is allowed at q: it runs from the first row to a row where it may end, and each symbol has a next state
+  -- a sequence is allowed at q: it runs from the first row to a row where it may end, and each
+  -- symbol has a next state
   abbrev pub allowed : ℕ → List ℕ → Bool
   allowed q w = row_runs q 0 w && has_next q w
 
-  -- q accepts a tree: its domain has the root's value, the children's symbols are allowed, and each child is accepted by the next state
-  -- under its symbol
+  -- q accepts a tree: its domain has the root's value, the children's symbols are allowed, and each
+  -- child is accepted by the next state under its symbol
   abbrev mutual
     pub accepts : ℕ → Tree → Bool
     accepts q (node v cs) = A.has q v && (allowed q (word cs) && accepts_all q cs)

@@ -26,8 +26,8 @@ abbrev mutual
   OccursBelow q (beside b bs) = Occurs q b ⊎ OccursBelow q bs
 
 module _ (A : Automaton) where
-  -- each node's value is in its state's domain, its children's symbols are allowed there, and each child is bound to the next state
-  -- under its symbol
+  -- each node's value is in its state's domain, its children's symbols are allowed there, and each
+  -- child is bound to the next state under its symbol
   abbrev mutual
     pub Bound : Tree → States → Type 0
     Bound (node v cs) (at q bs) = (A.has q v ≡ true) × (allowed A q (word cs) ≡ true) × BoundAll q cs bs
@@ -38,7 +38,8 @@ module _ (A : Automaton) where
     BoundAll q (child a t cs) leaf = ⊥
     BoundAll q (child a t cs) (beside b bs) = (A.next q a ≡ Some (root b)) × Bound t b × BoundAll q cs bs
 
--- a state accepts a tree exactly when the nodes can be bound to states, the root to that one, and then in one way only
+-- a state accepts a tree exactly when the nodes can be bound to states, the root to that one, and
+-- then in one way only
 pub record AcceptedIsBound : Type 0 where
   pub bound : (A : Automaton) (q : ℕ) (t : Tree) → accepts A q t ≡ true → (b : States) × (root b ≡ q) × Bound A t b
   pub accepted : (A : Automaton) (t : Tree) (b : States) → Bound A t b → accepts A (root b) t ≡ true

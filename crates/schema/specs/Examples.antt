@@ -3,7 +3,7 @@ use Rattle.std.specs.Prelude.{◌≡◌, ℕ, Bool, true, false, List, [], ◌�
 use Rattle.refusal.specs.declared.fault.Fault.TheVariants as fault
 use Rattle.codec.specs.Trees.{Tree, node, none, child}
 use Rattle.schema.specs.Automata.{Automaton, accepts}
-use Rattle.schema.specs.Faults.{table_fault, either_fault}
+use Rattle.schema.specs.Faults.{table_fault, either_fault, Limits}
 use Rattle.schema.specs.Live.{Live, LiveSymbol, Rank}
 use Rattle.schema.specs.Tables.{Tables, automaton}
 
@@ -93,7 +93,8 @@ alone = node 0 none
 abbrev pub above_one : Tree
 above_one = node 0 (child 0 alone none)
 
--- a state that may have no empty sequence and leads only to itself is not live; so the example's state is not
+-- a state that may have no empty sequence and leads only to itself is not live; so the example's
+-- state is not
 pub record LeadsBackDead : Type 0 where
   pub general : (A : Automaton) (q : ℕ) → A.ends q 0 ≡ false → ((a s : ℕ) → A.next q a ≡ Some s → s ≡ q) → Live A q → ⊥
   pub example : Live (automaton one_of_two just_zero) 0 → ⊥
@@ -109,7 +110,8 @@ pub record SmallAccepts : Type 0 where
   pub book_alone : accepts (automaton book zero_and_zero) 0 alone ≡ false
   pub book_above : accepts (automaton book zero_and_zero) 0 above_one ≡ true
 
--- which tables pass the test, and at which place the others are refused; of two faults the lower number, of one number the first schema's
+-- which tables pass the test, and at which place the others are refused; of two faults the lower
+-- number, of one number the first schema's
 pub record SmallFaults : Type 0 where
   pub no_child_sound : table_fault no_child ≡ None
   pub first_sound : table_fault any_of_first ≡ None
@@ -133,3 +135,4 @@ pub record SmallSchemas : Type 0 where
   pub faults : SmallFaults
   pub ranks : BookRanks
   pub dead : LeadsBackDead
+  pub limits : Limits

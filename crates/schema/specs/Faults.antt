@@ -1,10 +1,12 @@
 -- The test of the tables: the four faults, in their order, with their places. Assumes nothing.
-use Rattle.std.specs.Prelude.{ℕ, ◌+◌, ◌*◌, Bool, false, cond, not, ◌&&◌, ◌||◌, [], ◌∷◌, length, is_some, Some, None, Option, ◌==◌, nat_le, nat_lt}
+use Rattle.std.specs.Prelude.{◌≡◌, ℕ, ◌+◌, ◌*◌, Bool, false, cond, not, ◌&&◌, ◌||◌, [], ◌∷◌, length, is_some, Some, None, Option, ◌==◌, nat_le, nat_lt}
 use Rattle.std.specs.Option.{option_map}
 use Rattle.refusal.specs.Order.{first_of}
 use Rattle.refusal.specs.declared.fault.Fault.{Fault}
-use Rattle.refusal.specs.declared.fault.Fault.TheVariants.{Size, State, Row, Domain, Range, Symbols, Busy, Worn, Foreign, Ousted, Schemas, Steps, Early, Scratch, Short, Number, Symbol, Deep, Rest, Room, Nothing}
+use Rattle.refusal.specs.declared.fault.Fault.TheVariants.{Size, State, Row, Domain}
 use Rattle.refusal.specs.declared.fault.Refusal.{Refusal}
+use Rattle.schema.specs.declared.faults.TheConstants.{NONE, STATE_ROWS}
+use Rattle.schema.specs.declared.tables.TheConstants.{DOMAINS, ROWS, STATE_BYTES, STATES, SYMBOLS}
 use Rattle.schema.specs.Below.{some_below, lowest}
 use Rattle.schema.specs.Tables.{Tables, transition_byte, domain_number, row_count, first_row, end_mark, row_byte}
 
@@ -12,28 +14,33 @@ use Rattle.schema.specs.Tables.{Tables, transition_byte, domain_number, row_coun
 abbrev pub outside : ℕ → ℕ → ℕ → Bool
 outside low high n = not (nat_le low n && nat_le n high)
 
--- an entry that is neither 255 nor below the limit
+-- an entry that neither says none nor is below the limit
 abbrev pub stray : ℕ → ℕ → Bool
-stray limit b = not (b == 255 || nat_lt b limit)
+stray limit b = not (b == NONE || nat_lt b limit)
 
 module _ (T : Tables) where
-  -- a count is outside its limits: 1 to 32 symbols, 64 states, 1,024 rows and 64 domains
+  -- a count is 0 or above its limit
   abbrev pub counts_wrong : Bool
-  counts_wrong = outside 1 32 T.symbols || (outside 1 64 T.states || (outside 1 1024 T.rows || outside 1 64 T.domains))
+  counts_wrong =
+      outside 1 SYMBOLS T.symbols
+      || (outside 1 STATES T.states || (outside 1 ROWS T.rows || outside 1 DOMAINS T.domains))
 
   -- a table's length is not what the counts make it
   abbrev pub lengths_wrong : Bool
-  lengths_wrong = not (length T.transitions == T.states * T.symbols) || (not (length T.state_table == 4 * T.states) || not (length T.row_table == T.rows * (T.symbols + 1)))
+  lengths_wrong =
+      not (length T.transitions == T.states * T.symbols)
+      || (not (length T.state_table == STATE_BYTES * T.states)
+      || not (length T.row_table == T.rows * (T.symbols + 1)))
 
   -- the counts or the lengths are wrong
   abbrev pub size_wrong : Bool
   size_wrong = counts_wrong || lengths_wrong
 
-  -- a transition of the state is neither 255 nor a state
+  -- a transition of the state is neither none nor a state
   abbrev pub state_wrong : ℕ → Bool
   state_wrong q = some_below T.symbols (λ a. stray T.states (transition_byte T q a))
 
-  -- an entry of a row of the state is neither 255 nor one of the state's rows
+  -- an entry of a row of the state is neither none nor one of the state's rows
   abbrev pub entries_wrong : ℕ → ℕ → Bool
   entries_wrong q r = some_below T.symbols (λ a. stray (row_count T q) (row_byte T q r a))
 
@@ -45,9 +52,11 @@ module _ (T : Tables) where
   abbrev pub lines_wrong : ℕ → Bool
   lines_wrong q = some_below (row_count T q) (line_wrong q)
 
-  -- the row count is not 1 to 16, the rows leave the table, or one of them is wrong
+  -- the row count is 0 or above its limit, the rows leave the table, or one of them is wrong
   abbrev pub row_wrong : ℕ → Bool
-  row_wrong q = outside 1 16 (row_count T q) || (nat_lt T.rows (first_row T q + row_count T q) || lines_wrong q)
+  row_wrong q =
+      outside 1 STATE_ROWS (row_count T q)
+      || (nat_lt T.rows (first_row T q + row_count T q) || lines_wrong q)
 
   -- the domain number is too large
   abbrev pub domain_wrong : ℕ → Bool
@@ -58,24 +67,7 @@ module _ (T : Tables) where
   wrong_at State q = state_wrong q
   wrong_at Row q = row_wrong q
   wrong_at Domain q = domain_wrong q
-  wrong_at Size q = false
-  wrong_at Range q = false
-  wrong_at Symbols q = false
-  wrong_at Busy q = false
-  wrong_at Worn q = false
-  wrong_at Foreign q = false
-  wrong_at Ousted q = false
-  wrong_at Schemas q = false
-  wrong_at Steps q = false
-  wrong_at Early q = false
-  wrong_at Scratch q = false
-  wrong_at Short q = false
-  wrong_at Number q = false
-  wrong_at Symbol q = false
-  wrong_at Deep q = false
-  wrong_at Rest q = false
-  wrong_at Room q = false
-  wrong_at Nothing q = false
+  wrong_at _ q = false
 
   -- a fault of states has the lowest state that has it as its place
   abbrev pub at_lowest : Fault → Option Refusal
@@ -99,4 +91,17 @@ either_at_lowest T U f = first_of (at_lowest T f ∷ at_lowest U f ∷ [])
 
 -- the fault of two schemas, the lowest number first over both
 abbrev pub either_fault : Tables → Tables → Option Refusal
-either_fault T U = first_of (size_fault T ∷ size_fault U ∷ either_at_lowest T U State ∷ either_at_lowest T U Row ∷ either_at_lowest T U Domain ∷ [])
+either_fault T U =
+    first_of
+    (size_fault T ∷ size_fault U ∷ either_at_lowest T U State
+    ∷ either_at_lowest T U Row ∷ either_at_lowest T U Domain ∷ [])
+
+-- the limits in numbers
+pub record Limits : Type 0 where
+  pub symbols : SYMBOLS ≡ 32
+  pub states : STATES ≡ 64
+  pub rows : ROWS ≡ 1024
+  pub domains : DOMAINS ≡ 64
+  pub rows_of_a_state : STATE_ROWS ≡ 16
+  pub bytes_of_a_state : STATE_BYTES ≡ 4
+  pub none : NONE ≡ 255

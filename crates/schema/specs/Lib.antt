@@ -4,6 +4,7 @@ pub mod Bindings
 pub mod Examples
 pub mod Faults
 pub mod Live
+pub mod Meaning
 pub mod Outcome
 pub mod Permitted
 pub mod Rows

@@ -2,7 +2,7 @@
 use Rattle.std.specs.Prelude.{◌≡◌, ℕ, ◌<◌, ◌≤◌, Bool, true, false, List, [], ◌∷◌, ◌++◌, Some, None, Option, Decides}
 use Rattle.std.specs.List.{AllByRecursion, slice_get}
 use Rattle.codec.specs.Trees.{Tree, height}
-use Rattle.domain.specs.Kinds.{bit}
+use Rattle.bits.specs.Bits.{bit}
 use Rattle.schema.specs.Automata.{Automaton, passes, allowed, accepts}
 use Rattle.schema.specs.Rows.{RunsOver}
 
@@ -44,7 +44,8 @@ module _ (A : Automaton) where
   abbrev pub RankMask : ℕ → ℕ → Type 0
   RankMask n mask = (q : ℕ) → Decides (bit mask q) ((q < n) × ((m : ℕ) × (m < 64) × Rank q m))
 
-  -- the mask is that of the live states below n; at each of them its rank is noted, which is below 64, and none at every other number below 64
+  -- the mask is that of the live states below n; at each of them its rank is noted, which is below
+  -- 64, and none at every other number below 64
   pub record Ranked (n mask : ℕ) (ranks : List (Option ℕ)) : Type 0 where
     pub live : LiveMask n mask
     pub noted : (q : ℕ) → bit mask q ≡ true → (m : ℕ) × (slice_get ranks q ≡ Some (Some m)) × (m < 64) × Rank q m

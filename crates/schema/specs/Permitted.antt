@@ -1,7 +1,8 @@
--- Permitted symbols: a schema as if the others had no next state, and trees that hold no other. Assumes nothing.
+-- Permitted symbols: a schema as if the others had no next state, and trees that hold no other.
+-- Assumes nothing.
 use Rattle.std.specs.Prelude.{ℕ, Bool, true, cond, ◌&&◌, None}
 use Rattle.codec.specs.Trees.{Tree, node, Children, none, child}
-use Rattle.domain.specs.Kinds.{bit}
+use Rattle.bits.specs.Bits.{bit}
 use Rattle.schema.specs.declared.tables.Schema.{Schema}
 use Rattle.schema.specs.Automata.{Automaton}
 use Rattle.schema.specs.Tables.{automaton_of}

@@ -1,7 +1,7 @@
 -- Sequences at a state over a set of symbols, and the rows that they lead to. Assumes nothing.
 use Rattle.std.specs.Prelude.{◌≡◌, ℕ, ◌<◌, Bool, true, ◌⊎◌, List, [], ◌∷◌, ◌++◌, Some, None, Option}
 use Rattle.std.specs.List.{AllByRecursion}
-use Rattle.domain.specs.Kinds.{bit}
+use Rattle.bits.specs.Bits.{bit}
 use Rattle.schema.specs.Automata.{Automaton, row_runs}
 
 -- what is there goes on
@@ -14,12 +14,6 @@ pub record AfterEdge (Edge : ℕ → ℕ → ℕ → Type 0) (p before after : �
   pub kept : (i : ℕ) → bit before i ≡ true → bit after i ≡ true
   pub added : (a j : ℕ) → Edge p a j → j < 64 → bit after j ≡ true
   pub only : (i : ℕ) → bit after i ≡ true → (bit before i ≡ true) ⊎ ((a : ℕ) × Edge p a i)
-
--- the numbers of a set, and those below 64 that one of the numbers below n leads to
-pub record LedOnto (Leads : ℕ → Option ℕ → Type 0) (n before after : ℕ) : Type 0 where
-  pub kept : (i : ℕ) → bit before i ≡ true → bit after i ≡ true
-  pub added : (a : ℕ) → a < n → (o : Option ℕ) × Leads a o × ((i : ℕ) → o ≡ Some i → i < 64 → bit after i ≡ true)
-  pub only : (i : ℕ) → bit after i ≡ true → (bit before i ≡ true) ⊎ ((a : ℕ) × (a < n) × Leads a (Some i))
 
 module _ (A : Automaton) (q : ℕ) where
   -- the row that a sequence leads to from row r
@@ -44,7 +38,8 @@ module _ (A : Automaton) (q : ℕ) where
     abbrev pub LeadsOver : ℕ → ℕ → Type 0
     LeadsOver r s = (w : List ℕ) × AllByRecursion (λ a. set a ≡ true) w × (leads r w ≡ Some s)
 
-    -- some sequence over the set that holds the symbol runs from the first row to a row where it may end
+    -- some sequence over the set that holds the symbol runs from the first row to a row where it
+    -- may end
     abbrev pub Held : ℕ → Type 0
     Held a = (u v : List ℕ) × AllByRecursion (λ b. set b ≡ true) (u ++ a ∷ v) × (row_runs A q 0 (u ++ a ∷ v) ≡ true)
 

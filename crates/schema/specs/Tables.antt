@@ -1,6 +1,8 @@
 -- The tables that a schema lends, and the automaton that they lay out. Assumes nothing.
 use Rattle.std.specs.Prelude.{ℕ, ◌+◌, ◌*◌, ◌^◌, Bool, false, cond, ◌&&◌, List, map, length, get_or, Some, None, Option, ◌==◌, nat_lt, slice_index, slice_index_or}
+use Rattle.schema.specs.declared.faults.TheConstants.{NONE}
 use Rattle.schema.specs.declared.tables.Schema.{Schema}
+use Rattle.schema.specs.declared.tables.TheConstants.{STATE_BYTES}
 use Rattle.schema.specs.Automata.{Automaton}
 
 -- the counts and the byte tables
@@ -29,18 +31,18 @@ tables s = record {
 abbrev pub sets : {D : Type 0} → (D → ℕ → Bool) → Schema D → List (ℕ → Bool)
 sets holds s = map holds s.domains.now
 
--- an entry of 255 says that there is none
+-- what an entry says: a number, or none
 abbrev pub entry : ℕ → Option ℕ
-entry b = cond (b == 255) None (Some b)
+entry b = cond (b == NONE) None (Some b)
 
 module _ (T : Tables) where
   -- one byte for each symbol of each state in turn
   abbrev pub transition_byte : ℕ → ℕ → ℕ
-  transition_byte q a = slice_index_or T.transitions (q * T.symbols + a) 255
+  transition_byte q a = slice_index_or T.transitions (q * T.symbols + a) NONE
 
   -- four bytes a state: domain number, row count, and the first row, low byte first
   abbrev pub state_byte : ℕ → ℕ → ℕ
-  state_byte q i = slice_index T.state_table (4 * q + i)
+  state_byte q i = slice_index T.state_table (STATE_BYTES * q + i)
 
   -- which domain the state has
   abbrev pub domain_number : ℕ → ℕ
@@ -62,11 +64,12 @@ module _ (T : Tables) where
   abbrev pub end_mark : ℕ → ℕ → ℕ
   end_mark q r = slice_index T.row_table (row_start q r)
 
-  -- the row after row r under symbol a, counted from the state's first, or 255
+  -- the row after row r under symbol a, counted from the state's first, or none
   abbrev pub row_byte : ℕ → ℕ → ℕ → ℕ
-  row_byte q r a = slice_index_or T.row_table (row_start q r + 1 + a) 255
+  row_byte q r a = slice_index_or T.row_table (row_start q r + 1 + a) NONE
 
-  -- the automaton that the tables lay out over sets of values; a symbol past the symbol count leads nowhere, and values have 32 bits
+  -- the automaton that the tables lay out over sets of values; a symbol past the symbol count leads
+  -- nowhere, and values have 32 bits
   abbrev pub automaton : List (ℕ → Bool) → Automaton
   automaton domains = record {
     next = λ q a. cond (nat_lt a T.symbols) (entry (transition_byte q a)) None;

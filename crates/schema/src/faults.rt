@@ -1,5 +1,6 @@
 //! The tests of what the tables hold: transitions, rows and domain numbers, state by state.
-ghost use Rattle.std.specs.Prelude.{◌≡◌, None, Some, MatchResult};
+ghost use Rattle.std.specs.Prelude.{◌≡◌};
+ghost use Rattle.refusal.specs.Order.{Refuses};
 ghost use Rattle.schema.specs.Tables.{tables};
 ghost use Rattle.schema.specs.Faults.{stray, state_wrong, entries_wrong, line_wrong, lines_wrong, row_wrong, wrong_at, at_lowest, either_at_lowest};
 
@@ -69,7 +70,6 @@ impl<D> Measured<'_, D> {
     }
 
     /// Whether the state has the fault.
-    // A switch: the refusal and its law go by the fault's name, which closures would need beside them, and so be no plainer.
     fn is_wrong(&self, fault: Fault, state: u8) -> bool
         ensures { result ≡ wrong_at (tables self.now.schema) fault state }
     {
@@ -83,7 +83,7 @@ impl<D> Measured<'_, D> {
 
     /// The test for a fault of states: refused for the lowest state that has it.
     pub fn first_fault(&self, fault: Fault) -> Result<(), Refusal>
-        ensures { MatchResult result (λ _. at_lowest (tables self.now.schema) fault ≡ None) (λ e. at_lowest (tables self.now.schema) fault ≡ Some e) }
+        ensures { Refuses (at_lowest (tables self.now.schema) fault) result }
     {
         match (0..self.schema.states).find(|state| self.is_wrong(fault, *state as u8)) {
             Some(state) => Err(fault.at(state)),
@@ -93,7 +93,8 @@ impl<D> Measured<'_, D> {
 
     /// The test for a fault of this schema's states, and then of the other's.
     pub(crate) fn either_fault(&self, other: &Measured<D>, fault: Fault) -> Result<(), Refusal>
-        ensures { MatchResult result (λ _. either_at_lowest (tables self.now.schema) (tables other.now.schema) fault ≡ None) (λ e. either_at_lowest (tables self.now.schema) (tables other.now.schema) fault ≡ Some e) }
+        ensures { Refuses
+            (either_at_lowest (tables self.now.schema) (tables other.now.schema) fault) result }
     {
         self.first_fault(fault)?;
         other.first_fault(fault)

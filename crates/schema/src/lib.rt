@@ -5,7 +5,6 @@ pub mod faults;
 pub mod live;
 pub mod measured;
 pub mod rows;
-pub mod sets;
 pub mod symbols;
 pub mod tables;
 pub mod tested;

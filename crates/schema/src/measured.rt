@@ -15,7 +15,6 @@ pub struct Measured<'a, D> {
 }
 
 /// The byte at an index of a table, or another one past its end.
-// As `entry` of the refusals' words: one chain of the library's, for bytes here and for texts there.
 fn byte_at(table: &[u8], index: usize, other: u8) -> u8
     ensures { result ≡ slice_index_or table.now index other }
 {
@@ -25,7 +24,8 @@ fn byte_at(table: &[u8], index: usize, other: u8) -> u8
 impl<'a, D> Measured<'a, D> {
     /// The schema, tested for `size`.
     pub fn new(schema: &Schema<'a, D>) -> Result<Measured<'a, D>, Refusal>
-        ensures { MatchResult result (λ m. m.schema ≡ schema.now) (λ e. size_fault (tables schema.now) ≡ Some e) }
+        ensures { MatchResult result
+            (λ m. m.schema ≡ schema.now) (λ e. size_fault (tables schema.now) ≡ Some e) }
     {
         if schema.counts_fit() && schema.lengths_fit() {
             Ok(Measured { schema: *schema })

@@ -2,7 +2,7 @@
 ghost use Rattle.std.specs.Prelude.{◌≡◌, ℕ, ◌^◌, ◌<◌, Bool, false, List, Some, MatchOption, MatchResult};
 ghost use Rattle.std.specs.Slice.{IsItemAt};
 ghost use Rattle.domain.specs.Sets.{Empty};
-ghost use Rattle.schema.specs.Tables.{entry, tables, domain_number, automaton, automaton_of};
+ghost use Rattle.schema.specs.Tables.{entry, tables, domain_number, automaton};
 ghost use Rattle.schema.specs.Faults.{faulty, table_fault, either_fault};
 
 use crate::faults::NONE;
@@ -26,9 +26,13 @@ fn known(byte: u8) -> Option<u8>
 }
 
 impl<'a, D> Tested<'a, D> {
+    ghost use Rattle.schema.specs.Meaning.{states_of, symbols_of, tables_of};
+
     /// The schema, tested for `size`, `state`, `row` and `domain` in that order.
     pub fn new(schema: &Schema<'a, D>) -> Result<Tested<'a, D>, Refusal>
-        ensures { MatchResult result (λ t. t.measured.schema ≡ schema.now) (λ e. table_fault (tables schema.now) ≡ Some e) }
+        ensures { MatchResult result
+            (λ t. t.measured.schema ≡ schema.now)
+            (λ e. table_fault (tables schema.now) ≡ Some e) }
     {
         let measured = Measured::new(schema)?;
         measured.first_fault(Fault::State)?;
@@ -42,7 +46,9 @@ impl<'a, D> Tested<'a, D> {
         first: &Schema<'a, D>,
         second: &Schema<'b, D>,
     ) -> Result<(Tested<'a, D>, Tested<'b, D>), Refusal>
-        ensures { MatchResult result (λ t. (t.0.measured.schema ≡ first.now) × (t.1.measured.schema ≡ second.now)) (λ e. either_fault (tables first.now) (tables second.now) ≡ Some e) }
+        ensures { MatchResult result
+            (λ t. (t.0.measured.schema ≡ first.now) × (t.1.measured.schema ≡ second.now))
+            (λ e. either_fault (tables first.now) (tables second.now) ≡ Some e) }
     {
         let first = Measured::new(first)?;
         let second = Measured::new(second)?;
@@ -54,21 +60,22 @@ impl<'a, D> Tested<'a, D> {
 
     /// How many symbols the schema has.
     pub fn symbols(&self) -> usize
-        ensures { result ≡ self.now.measured.schema.symbols }
+        ensures { result ≡ symbols_of self.now }
     {
         self.measured.schema.symbols
     }
 
     /// How many states the schema has.
     pub fn states(&self) -> usize
-        ensures { result ≡ self.now.measured.schema.states }
+        ensures { result ≡ states_of self.now }
     {
         self.measured.schema.states
     }
 
     /// The state under a symbol.
     pub fn next_state(&self, state: u8, symbol: u8) -> Option<u8>
-        ensures { (ds : List (ℕ → Bool)) → result ≡ (automaton (tables self.now.measured.schema) ds).next state symbol }
+        ensures { (ds : List (ℕ → Bool)) →
+            result ≡ (automaton (tables_of self.now) ds).next state symbol }
     {
         if (symbol as usize) < self.measured.schema.symbols {
             known(self.measured.transition_byte(state, symbol))
@@ -78,9 +85,9 @@ impl<'a, D> Tested<'a, D> {
     }
 
     /// The row after a row under a symbol.
-    // As `next_state`: one helper for both would be handed the byte before it is known that the symbol is one.
     pub fn next_row(&self, state: u8, row: u8, symbol: u8) -> Option<u8>
-        ensures { (ds : List (ℕ → Bool)) → result ≡ (automaton (tables self.now.measured.schema) ds).step state row symbol }
+        ensures { (ds : List (ℕ → Bool)) →
+            result ≡ (automaton (tables_of self.now) ds).step state row symbol }
     {
         if (symbol as usize) < self.measured.schema.symbols {
             known(self.measured.row_byte(state, row, symbol))
@@ -91,17 +98,25 @@ impl<'a, D> Tested<'a, D> {
 
     /// Whether a sequence may end at a row.
     pub fn may_end(&self, state: u8, row: u8) -> bool
-        ensures { (ds : List (ℕ → Bool)) → result ≡ (automaton (tables self.now.measured.schema) ds).ends state row }
+        ensures { (ds : List (ℕ → Bool)) →
+            result ≡ (automaton (tables_of self.now) ds).ends state row }
     {
         self.measured.end_mark(state, row) == 1
     }
 }
 
 impl<D: Domain> Tested<'_, D> {
+    ghost use Rattle.schema.specs.Meaning.{meaning, tables_of};
+
     /// The domain with the state's number.
     pub fn domain(&self, state: u8) -> Option<&D>
-        ensures listed { IsItemAt self.now.measured.schema.domains.now (domain_number (tables self.now.measured.schema) state) result }
-        ensures values { MatchOption result (Empty ((automaton_of D.Domain.holds self.now.measured.schema).has state)) (λ d. (v : ℕ) → v < 2 ^ 32 → D.Domain.holds d.now v ≡ (automaton_of D.Domain.holds self.now.measured.schema).has state v) }
+        ensures listed { IsItemAt self.now.measured.schema.domains.now
+            (domain_number (tables_of self.now) state) result }
+        ensures values { MatchOption result
+            (Empty ((meaning D.Domain.holds self.now).has state))
+            (λ d.
+            (v : ℕ) → v < 2 ^ 32 →
+            D.Domain.holds d.now v ≡ (meaning D.Domain.holds self.now).has state v) }
     {
         self.measured
             .schema
@@ -111,7 +126,7 @@ impl<D: Domain> Tested<'_, D> {
 
     /// Whether the state's domain has a value.
     pub fn has(&self, state: u8, value: u32) -> bool
-        ensures { result ≡ (automaton_of D.Domain.holds self.now.measured.schema).has state value }
+        ensures { result ≡ (meaning D.Domain.holds self.now).has state value }
     {
         self.domain(state).is_some_and(|domain| domain.has(value))
     }

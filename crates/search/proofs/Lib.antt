@@ -1,8 +1,10 @@
 pub mod Breadth
-pub mod Listing
+pub mod Visits
 pub mod Meanings
 pub mod Moves
 pub mod Orders
+pub mod Paths
 pub mod Places
+pub mod Filling
 pub mod Tracing
 pub mod Underway

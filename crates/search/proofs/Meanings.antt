@@ -1,4 +1,5 @@
--- What the watchers want: sequences that hold a symbol, and sequences that are not allowed. Assumes nothing.
+-- What the watchers want: sequences that hold a symbol, and sequences that are not allowed. Assumes
+-- nothing.
 use Rattle.std.proofs.Common.{◌≡◌, ℕ, ◌<◌, min, Bool, true, false, cond, not, ◌&&◌, ◌||◌, eqb, ltb, List, [], ◌∷◌, ◌++◌, Some, None, Decides, Option, sym, refl, ap, ◌∙◌, ⊎_elim, arith}
 use Rattle.std.proofs.lemmas.Bool.{and_right, both_ways, cases_Bool, cond-true, eqb-true, eq-eqb, lt-ltb, not_from_false}
 use Rattle.schema.specs.Automata.{Automaton, passes, present, row_runs, has_next, allowed}

@@ -1,4 +1,5 @@
--- Moves over pairs of a row and a watcher's state: they lead to a goal exactly along the sequences that are sought. Assumes nothing.
+-- Moves over pairs of a row and a watcher's state: they lead to a goal exactly along the sequences
+-- that are sought. Assumes nothing.
 use Rattle.std.proofs.Common.{◌≡◌, ℕ, Bool, true, false, cond, ◌&&◌, List, [], ◌∷◌, ◌++◌, reverse, Some, None, Option, sym, refl, ap, ◌∙◌}
 use mathlib.Core.List.{reverse-cons}
 use Rattle.std.specs.Option.{option_and_then, option_map}
@@ -8,7 +9,7 @@ use Rattle.std.proofs.lemmas.Bool.{and_parts, and_from, both_ways}
 use Rattle.std.proofs.lemmas.Option.{none-some, option_and_then_some, same_Some}
 use Rattle.schema.specs.Automata.{Automaton, passes, row_runs}
 use Rattle.search.specs.declared.pairs.RowPair.{RowPair}
-use Rattle.search.specs.Pairs.{next_pair}
+use Rattle.search.specs.Pairs.{next_pair, row_links}
 use Rattle.search.specs.Sequences.{Sought}
 use Rattle.search.specs.Watching.{Watching, watched}
 use Rattle.search.proofs.Breadth.{leads}
@@ -52,7 +53,7 @@ module _ (A : Automaton) (q : ℕ) (set : ℕ → Bool) (W : Watching) where
       by None rest = refl
 
   -- read from either end
-  follow_leads : (w : List ℕ) → follow first (reverse w) ≡ leads move is_goal first place_of w
+  follow_leads : (w : List ℕ) → follow first (reverse w) ≡ leads row_links move is_goal first place_of w
   follow_leads [] = refl
   follow_leads (a ∷ w) = ap (follow first) (reverse-cons a w) ∙ follow_push (reverse w) first a ∙ ap (option_and_then (λ m. move m a)) (follow_leads w)
 
@@ -92,13 +93,13 @@ module _ (A : Automaton) (q : ℕ) (set : ℕ → Bool) (W : Watching) where
       (rest.0, ap (option_and_then (λ x. follow x w)) (move_from n a r.0 over.0 r.1) ∙ rest.1, rest.2)
 
   -- over the search's moves, the last symbol first
-  pub sought_of_goal : (w : List ℕ) (m : Place) → leads move is_goal first place_of w ≡ Some m → is_goal m ≡ true → Sought A q set W (reverse w)
+  pub sought_of_goal : (w : List ℕ) (m : Place) → leads row_links move is_goal first place_of w ≡ Some m → is_goal m ≡ true → Sought A q set W (reverse w)
   sought_of_goal w m to there = let s = sought_from (reverse w) first m (follow_leads w ∙ to) there in record { over = s.0; runs = s.1; wants = s.2 }
 
   -- a goal that a sequence leads to
   pub record Reaches (w : List ℕ) : Type 0 where
     pub place : Place
-    pub to : leads move is_goal first place_of w ≡ Some place
+    pub to : leads row_links move is_goal first place_of w ≡ Some place
     pub there : is_goal place ≡ true
 
   pub goal_of_sought : (w : List ℕ) → Sought A q set W w → Reaches (reverse w)

@@ -1,4 +1,5 @@
--- Which of two sequences comes first, read from the first symbol on or from the last one, and why no more than one is the first. Assumes nothing.
+-- Which of two sequences comes first, read from the first symbol on or from the last one, and why
+-- no more than one is the first. Assumes nothing.
 use Rattle.std.proofs.Common.{◌≡◌, ℕ, ◌<◌, ◌≤◌, ◌⊎◌, List, [], ◌∷◌, ◌++◌, reverse, length, sym, refl, ap, ◌∙◌, subst, inl, inr, ⊎_elim, arith}
 use mathlib.Core.List.{reverse-cons}
 use Rattle.std.proofs.lemmas.List.{length-reverse, reverse-reverse}
@@ -35,7 +36,8 @@ first_alike P Q alike w f = record { passes = (alike w).0 f.passes; least = λ v
 pub one_shortest : OneShortest
 one_shortest A q set W = one_first (Sought A q set W)
 
--- read from the last symbol on: u is shorter than v, or as long and precedes it where both are read from the first symbol on
+-- read from the last symbol on: u is shorter than v, or as long and precedes it where both are read
+-- from the first symbol on
 abbrev pub Before : List ℕ → List ℕ → Type 0
 Before [] [] = ⊥
 Before [] (c ∷ v) = Unit {0}

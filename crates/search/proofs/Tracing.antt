@@ -1,74 +1,62 @@
--- The symbols that led to an entry are its sequence, from the last one on. Assumes nothing.
-use Rattle.std.proofs.Common.{◌≡◌, ℕ, zero, suc, ◌-◌, ◌<◌, ◌≤◌, Bool, true, false, cond, ltb, List, [], ◌∷◌, reverse, length, get_or, Some, None, Option, sym, refl, ap, ◌∙◌, subst, arith}
+-- The symbols that led to an entry are its word, from the last one on. Assumes nothing.
+use Rattle.std.proofs.Common.{◌≡◌, ℕ, zero, suc, ◌-◌, ◌<◌, ◌≤◌, List, [], ◌∷◌, reverse, length, get_or, Some, None, Option, sym, refl, ap, ◌∙◌, arith}
 use Rattle.std.specs.List.{slice_get}
 use Rattle.std.proofs.lemmas.List.{get_or-reverse, length-reverse}
-use Rattle.std.proofs.lemmas.Option.{none-some, same_Some, slice_get-get_or}
-use Rattle.std.proofs.lemmas.Bool.{cond-true, lt-ltb, ltb-true}
-use Rattle.search.specs.declared.pairs.RowPair.{RowPair}
-use Rattle.search.specs.Pairs.{Traces, Spells, down_from, downwards, descent, found_from, with_parent_below}
+use Rattle.std.proofs.lemmas.Option.{slice_get-get_or}
+use Rattle.search.specs.Paths.{Links, Spells, PathBack, word_of, down_from, downwards, descent, found_from}
+use Rattle.search.proofs.Paths.{found_some, found_there, traces_of_word}
 
-module _ (es : List RowPair) where
-  -- an entry that was found from one below it
-  found_below : (i : ℕ) (e : RowPair) → found_from es i ≡ Some e → e.parent < i
-  found_below i e is = by (slice_get es i) is
-    where
-      by : (o : Option RowPair) → with_parent_below o i ≡ Some e → e.parent < i
-      by None is = absurd (none-some _ is)
-      by (Some f) is = inner (ltb f.parent i) refl is
-        where
-          inner : (t : Bool) → ltb f.parent i ≡ t → cond t (Some f) None ≡ Some e → e.parent < i
-          inner true low is = subst (λ (x : RowPair). x.parent < i) (same_Some _ _ is) (ltb-true f.parent i low)
-          inner false low is = absurd (none-some _ is)
-
-  -- the bottom entry was not
-  at_bottom : (k i : ℕ) → i ≡ 0 → downwards es k i ≡ []
+module _ {E : Type 0} (L : Links E) (es : List E) where
+  -- the first entry was not found from another
+  at_first : (k i : ℕ) → i ≡ 0 → downwards L es k i ≡ []
   unfolding downwards
-  at_bottom zero i low = refl
-  at_bottom (suc k) i low = by (found_from es i) refl
+  at_first zero i low = refl
+  at_first (suc k) i low = by (found_from L es i) refl
     where
-      by : (o : Option RowPair) → found_from es i ≡ o → down_from o (downwards es k) ≡ []
+      by : (o : Option E) → found_from L es i ≡ o → down_from L o (downwards L es k) ≡ []
       by None is = refl
-      by (Some e) is = absurd (omega (arith, low, found_below i e is))
+      by (Some e) is = absurd (omega (arith, low, (found_some L es i e is).1))
 
-  -- no more symbols than entries below lead to an entry
-  enough : (k m i : ℕ) → i ≤ k → i ≤ m → downwards es k i ≡ downwards es m i
+  -- no more symbols than entries before it lead to an entry
+  enough : (k m i : ℕ) → i ≤ k → i ≤ m → downwards L es k i ≡ downwards L es m i
   unfolding downwards
-  enough zero m i low high = sym (at_bottom m i (omega arith))
-  enough (suc k) zero i low high = at_bottom (suc k) i (omega arith)
-  enough (suc k) (suc m) i low high = by (found_from es i) refl (enough k m)
+  enough zero m i low high = sym (at_first m i (omega arith))
+  enough (suc k) zero i low high = at_first (suc k) i (omega arith)
+  enough (suc k) (suc m) i low high = by (found_from L es i) refl (enough k m)
     where
-      by : (o : Option RowPair) → found_from es i ≡ o → ((j : ℕ) → j ≤ k → j ≤ m → downwards es k j ≡ downwards es m j) → down_from o (downwards es k) ≡ down_from o (downwards es m)
+      by : (o : Option E) → found_from L es i ≡ o → ((j : ℕ) → j ≤ k → j ≤ m → downwards L es k j ≡ downwards L es m j) → down_from L o (downwards L es k) ≡ down_from L o (downwards L es m)
       by None is rest = refl
       by (Some e) is rest =
-          let below = found_below i e is in
-          ap (λ l. e.symbol ∷ l) (rest e.parent (omega arith) (omega arith))
+          let before = (found_some L es i e is).1 in
+          ap (λ l. L.symbol e ∷ l) (rest (L.parent e) (omega arith) (omega arith))
 
-  pub trail_ends : (i : ℕ) → found_from es i ≡ None → descent es i ≡ []
+  pub descent_ends : (i : ℕ) → found_from L es i ≡ None → descent L es i ≡ []
   unfolding downwards
-  trail_ends zero is = refl
-  trail_ends (suc i) is = ap (λ o. down_from o (downwards es i)) is
+  descent_ends zero is = refl
+  descent_ends (suc i) is = ap (λ o. down_from L o (downwards L es i)) is
 
-  pub trail_goes_on : (i : ℕ) (e : RowPair) → found_from es i ≡ Some e → descent es i ≡ e.symbol ∷ descent es e.parent
+  pub descent_goes_on : (i : ℕ) (e : E) → found_from L es i ≡ Some e → descent L es i ≡ L.symbol e ∷ descent L es (L.parent e)
   unfolding downwards
-  trail_goes_on zero e is = absurd (omega (arith, found_below 0 e is))
-  trail_goes_on (suc i) e is =
-      let below = found_below (suc i) e is in
-      ap (λ o. down_from o (downwards es i)) is ∙ ap (λ l. e.symbol ∷ l) (enough i e.parent e.parent (omega arith) (omega arith))
+  descent_goes_on zero e is = absurd (omega (arith, (found_some L es 0 e is).1))
+  descent_goes_on (suc i) e is =
+      let before = (found_some L es (suc i) e is).1 in
+      ap (λ o. down_from L o (downwards L es i)) is ∙ ap (λ l. L.symbol e ∷ l) (enough i (L.parent e) (L.parent e) (omega arith) (omega arith))
 
-  traced : (w : List ℕ) (i : ℕ) → Traces es i w → descent es i ≡ w
-  traced [] i t = at_bottom i i t
-  traced (a ∷ w) i t =
-      let is : found_from es i ≡ Some t.0 = ap (λ o. with_parent_below o i) t.1 ∙ cond-true (ltb t.0.parent i) (Some t.0) None (lt-ltb t.0.parent i t.3) in
-      trail_goes_on i t.0 is ∙ ap (λ l. t.0.symbol ∷ l) (traced w t.0.parent t.4) ∙ ap (λ (s : ℕ). s ∷ w) t.2
+  along : (back : List E) (i : ℕ) → PathBack L es i back → descent L es i ≡ word_of L back
+  along [] i p = at_first i i p
+  along (e ∷ back) i p = descent_goes_on i e (found_there L es i e p.0 p.1) ∙ ap (λ l. L.symbol e ∷ l) (along back (L.parent e) p.2)
 
-  module _ (i : ℕ) (w : List ℕ) (t : Spells es i w) where
-    pub counted : length (descent es i) ≡ length w
-    counted = ap length (traced (reverse w) i t) ∙ length-reverse w
+  module _ (i : ℕ) (w : List ℕ) (s : Spells L es i w) where
+    turned : descent L es i ≡ reverse w
+    turned = let t = traces_of_word L es i w s in along t.0 i t.1 ∙ t.2
+
+    pub counted : length (descent L es i) ≡ length w
+    counted = ap length turned ∙ length-reverse w
 
     -- counted from the end, the symbols stand on the way down
-    pub symbol_there : (count position : ℕ) → count ≡ length w → position < count → slice_get (descent es i) (count - 1 - position) ≡ slice_get w position
+    pub symbol_there : (count position : ℕ) → count ≡ length w → position < count → slice_get (descent L es i) (count - 1 - position) ≡ slice_get w position
     symbol_there count position long low =
         let back = count - 1 - position in
         let on : length w - 1 - back ≡ position = omega arith in
-        ap (λ l. slice_get l back) (traced (reverse w) i t) ∙ slice_get-get_or (reverse w) back 0 (omega (arith, length-reverse w))
+        ap (λ l. slice_get l back) turned ∙ slice_get-get_or (reverse w) back 0 (omega (arith, length-reverse w))
         ∙ ap Some (get_or-reverse w back 0 (omega arith) ∙ ap (λ (n : ℕ). get_or w n 0) on) ∙ sym (slice_get-get_or w position 0 (omega arith))

@@ -1,4 +1,5 @@
--- Sequences of symbols that are sought at a state, which of two comes first, and the first of those that are sought. Assumes nothing.
+-- Sequences of symbols that are sought at a state, which of two comes first, and the first of those
+-- that are sought. Assumes nothing.
 use Rattle.std.specs.Prelude.{◌≡◌, ℕ, ◌<◌, ◌⊎◌, ◌↔◌, Bool, true, List, [], ◌∷◌, length}
 use Rattle.std.specs.List.{AllByRecursion}
 use Rattle.schema.specs.Automata.{Automaton, row_runs}
@@ -14,7 +15,8 @@ Precedes (a ∷ w) (b ∷ v) = (a < b) ⊎ ((a ≡ b) × Precedes w v)
 abbrev pub NoLater : List ℕ → List ℕ → Type 0
 NoLater w v = (length w < length v) ⊎ ((length w ≡ length v) × ((w ≡ v) ⊎ Precedes w v))
 
--- w is the first of the sequences with P: it is no longer than any other, and precedes those that are as long
+-- w is the first of the sequences with P: it is no longer than any other, and precedes those that
+-- are as long
 pub record First (P : List ℕ → Type 0) (w : List ℕ) : Type 0 where
   pub passes : P w
   pub least : (v : List ℕ) → P v → NoLater w v
@@ -23,12 +25,14 @@ pub record First (P : List ℕ → Type 0) (w : List ℕ) : Type 0 where
 abbrev pub OneFirst : (List ℕ → Type 0) → Type 0
 OneFirst P = (w v : List ℕ) → First P w → First P v → w ≡ v
 
--- what is the first of the sequences with P is so with Q too, if P and Q say the same of every sequence
+-- what is the first of the sequences with P is so with Q too, if P and Q say the same of every
+-- sequence
 abbrev pub FirstAlike : (List ℕ → Type 0) → (List ℕ → Type 0) → Type 0
 FirstAlike P Q = ((w : List ℕ) → P w ↔ Q w) → (w : List ℕ) → First P w → First Q w
 
 module _ (A : Automaton) (q : ℕ) (set : ℕ → Bool) (W : Watching) where
-  -- a sequence is sought: its symbols are in the set, it runs from the first row to a row where it may end, and the watcher wants it
+  -- a sequence is sought: its symbols are in the set, it runs from the first row to a row where it
+  -- may end, and the watcher wants it
   pub record Sought (w : List ℕ) : Type 0 where
     pub over : AllByRecursion (λ a. set a ≡ true) w
     pub runs : row_runs A q 0 w ≡ true

@@ -3,13 +3,15 @@ use Rattle.std.specs.Prelude.{◌≡◌, ℕ, ◌<◌, min, Bool, true, false, c
 use Rattle.std.proofs.Common.{lit<, arith}
 use Rattle.schema.specs.Automata.{Automaton}
 
--- the state before the first symbol, the state after a symbol, and whether a sequence that led to a state is wanted
+-- the state before the first symbol, the state after a symbol, and whether a sequence that led to a
+-- state is wanted
 pub record Watching : Type 0 where
   pub start : ℕ
   pub after : ℕ → ℕ → ℕ
   pub wants : ℕ → Bool
 
--- the state before the first symbol and those after a symbol are below n; states and symbols are bytes
+-- the state before the first symbol and those after a symbol are below n; states and symbols are
+-- bytes
 pub record StatesBelow (n : ℕ) (W : Watching) : Type 0 where
   pub start : W.start < n
   pub after : (s b : ℕ) → s < 256 → b < 256 → W.after s b < n
@@ -51,8 +53,8 @@ row_or_gone (Some r) (Some s) = min r 16
 row_or_gone (Some r) None = 16
 row_or_gone None o = 16
 
--- the row of state p that the sequence led to, or gone as soon as a symbol has no next row or no next state there; wanted where it is
--- gone, and where the row is none to end at
+-- the row of state p that the sequence led to, or gone as soon as a symbol has no next row or no
+-- next state there; wanted where it is gone, and where the row is none to end at
 abbrev pub refusing : Automaton → ℕ → Watching
 refusing A p = record {
   start = 0;

@@ -5,8 +5,9 @@ use schema::faults::STATE_ROWS;
 /// How many pairs there are at most: each row that a state can have with each state of a watcher.
 pub const ROW_PAIRS: usize = STATE_ROWS as usize * WATCHER_STATES as usize;
 
-/// A row of the state and a state of the watcher, the symbol that led to them, and the entry that it led from.
-// The parent is a place on the pile and no box, and the watcher's state a number: the caller lends the slots, and nothing is allocated.
+/// A row of the state and a state of the watcher, the symbol that led to them, and the entry that
+/// it led from.
+// Numbers: the pairs lie in slots that the caller lends.
 #[derive(Clone, Copy, Debug, PartialEq, Eq)]
 pub struct RowPair {
     pub row: u8,

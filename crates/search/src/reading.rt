@@ -2,14 +2,15 @@
 ghost use Rattle.std.specs.Prelude.{◌≡◌, ℕ, List, length as size};
 ghost use Rattle.std.specs.Iterator.{YieldsFirst, at_most};
 ghost use Rattle.std.specs.List.{slice_get};
-ghost use Rattle.search.specs.Pairs.{Spells, descent, «found_from»};
+ghost use Rattle.search.specs.Pairs.{row_links};
+ghost use Rattle.search.specs.Paths.{Spells, descent, «found_from»};
 
 use crate::pairs::RowPair;
 use codec::pile::Pile;
 
 /// An entry that was found from one below it.
 fn found_from(pile: &Pile<RowPair>, index: usize) -> Option<RowPair>
-    ensures { result ≡ found_from pile.now.entries index }
+    ensures { result ≡ found_from row_links pile.now.entries index }
 {
     pile.read(index)
         .filter(|pair| usize::from(pair.parent) < index)
@@ -25,7 +26,7 @@ struct Descent<'a, 'b> {
 impl Iterator for Descent<'_, '_> {
     type Item = u8;
 
-    ghost next_gives = { YieldsFirst (λ t. descent t.pile.now.entries t.at) };
+    ghost next_gives = { YieldsFirst (λ t. descent row_links t.pile.now.entries t.at) };
 
     ghost remaining = { λ t. at_most t.at };
 
@@ -38,14 +39,15 @@ impl Iterator for Descent<'_, '_> {
 
 /// How many symbols the sequence of an entry has.
 pub fn length(pile: &Pile<RowPair>, index: usize) -> usize
-    ensures { (w : List ℕ) → Spells pile.now.entries index w → result ≡ size w }
+    ensures { (w : List ℕ) → Spells row_links pile.now.entries index w → result ≡ size w }
 {
     Descent { pile, at: index }.count()
 }
 
 /// The symbol at a position of the sequence of an entry, the first one at 0, or none past its end.
 pub fn symbol_at(pile: &Pile<RowPair>, index: usize, position: usize) -> Option<u8>
-    ensures { (w : List ℕ) → Spells pile.now.entries index w → result ≡ slice_get w position }
+    ensures { (w : List ℕ) → Spells row_links pile.now.entries index w →
+        result ≡ slice_get w position }
 {
     let count = length(pile, index);
     if position >= count {

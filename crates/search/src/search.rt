@@ -1,17 +1,22 @@
 //! The breadth-first search over pairs of a row and a watcher's state.
-ghost use Rattle.std.specs.Prelude.{◌≡◌, ◌<◌, ◌≤◌, [], length};
-ghost use Rattle.search.specs.Questions.{first_of, next_of, goal_of, Answers};
+ghost use Rattle.std.specs.Prelude.{◌≡◌, ◌+◌, ◌*◌, ◌≤◌, [], length};
+ghost use Rattle.schema.specs.declared.faults.TheConstants.{STATE_ROWS};
+ghost use Rattle.schema.specs.Meaning.{IsState};
+ghost use Rattle.search.specs.Questions.{first_of, next_of, goal_of, Answers, ShortestOf};
 ghost use Rattle.search.specs.Sequences.{OneShortest};
 
-use crate::listed::Listed;
 use crate::pairs::{ROW_PAIRS, RowPair};
+use crate::slots::RowSlots;
+use crate::visited::Visited;
 use crate::watcher::Watcher;
+use crate::word::Word;
+use bits::sets::has_member;
 use codec::pile::Pile;
 use domain::domain::Domain;
-use schema::sets::has_member;
 use schema::tested::Tested;
 
-/// A question for the sequences over a set of symbols that run at a state of a schema and that a watcher wants.
+/// A question for the sequences over a set of symbols that run at a state of a schema and that a
+/// watcher wants.
 #[derive(Drop)]
 pub struct Question<'a, 'b, D, W> {
     pub tested: &'a Tested<'b, D>,
@@ -56,21 +61,23 @@ impl<D: Domain, W: Watcher> Question<'_, '_, D, W> {
         self.tested.may_end(self.state, pair.row) && self.watcher.wants(pair.watch)
     }
 
-    /// The shortest sequence that is sought, and of those that are as short the first by its symbols: the entry of the pile that it ends at, or
-    /// none where none is sought. The pile has to be empty and to have ROW_PAIRS slots.
-    pub fn search(&self, pile: &mut Pile<RowPair>) -> Option<usize>
-        ensures answer { self.now.state < self.now.tested.now.measured.schema.states → pile.old.entries ≡ [] → 272 ≤ length pile.old.free → Answers D.Domain.holds W.Watcher.watching self.now W.Watcher.states pile.new.entries result }
-        ensures one { OneShortest }
-        ensures slots { ROW_PAIRS ≡ 272 }
+    /// The entry of the pile that the shortest sequence that is sought ends at, or none where none
+    /// is sought. The pile has to be empty and to have ROW_PAIRS slots.
+    fn search(&self, pile: &mut Pile<RowPair>) -> Option<usize>
+        ensures { IsState self.now.tested.now self.now.state →
+            pile.old.entries ≡ [] →
+            ROW_PAIRS ≤ length pile.old.free →
+            Answers D.Domain.holds W.Watcher.watching self.now W.Watcher.states pile.new.entries result }
     {
         let first = self.first_pair();
-        let mut listed = Listed::new();
-        let bottom = listed.enlist(pile, first);
+        let mut visited = Visited::new();
+        let bottom = visited.visit(pile, first);
         if self.is_goal(first) {
             return bottom;
         }
         let mut found = None;
-        // Two loops left by a label: the first goal ends both. The pile grows while the outer one goes over it.
+        // Two loops left by a label: the first goal ends both. The pile grows while the outer one
+        // goes over it.
         'search: for cursor in 0..ROW_PAIRS {
             let Some(pair) = pile.read(cursor) else {
                 break 'search;
@@ -80,7 +87,7 @@ impl<D: Domain, W: Watcher> Question<'_, '_, D, W> {
                 let Some(next) = self.next_pair(pair, symbol as u8, cursor as u16) else {
                     continue 'symbols;
                 };
-                let Some(index) = listed.enlist(pile, next) else {
+                let Some(index) = visited.visit(pile, next) else {
                     continue 'symbols;
                 };
                 if self.is_goal(next) {
@@ -90,5 +97,20 @@ impl<D: Domain, W: Watcher> Question<'_, '_, D, W> {
             }
         }
         found
+    }
+
+    /// The shortest sequence that is sought, and of those that are as short the first by its
+    /// symbols; or none where none is sought. It has at most N symbols, where N allows for all that
+    /// the rows of a state and the states of the watcher can take.
+    #[tactic(auto, using(crate::proofs::Orders::one_shortest))]
+    pub fn shortest<const N: usize>(&self, slots: &mut RowSlots) -> Option<Word<N>>
+        ensures answer { IsState self.now.tested.now self.now.state →
+            STATE_ROWS * W.Watcher.states ≤ N + 1 →
+            ShortestOf D.Domain.holds W.Watcher.watching self.now result }
+        ensures one { OneShortest }
+    {
+        let mut pile = Pile::new(&mut *slots.slots);
+        let index = self.search(&mut pile)?;
+        Some(Word::read(&pile, index))
     }
 }

@@ -1,10 +1,10 @@
 //! The search over small schemas.
-use crate::pairs::RowPair;
-use crate::reading::{length, symbol_at};
+use crate::pairs::{ROW_PAIRS, RowPair};
 use crate::search::Question;
+use crate::slots::RowSlots;
 use crate::watcher::Watcher;
 use crate::watchers::{Anything, Holding, Refused};
-use codec::pile::Pile;
+use crate::word::Word;
 use domain::domain::Domain;
 use domain::keywords::Keywords;
 use refusal::fault::Refusal;
@@ -18,6 +18,9 @@ const UNUSED: RowPair = RowPair {
     symbol: 0,
     parent: 0,
 };
+
+/// The most symbols of a shortest sequence.
+const MOST: usize = ROW_PAIRS - 1;
 
 const ZERO: [Keywords; 1] = [Keywords { bits: 1 }];
 
@@ -80,14 +83,14 @@ struct Sequence {
     second: Option<u8>,
 }
 
-/// The sequence of the entry that a search found.
-fn read_off(pile: &Pile<RowPair>, found: Option<usize>) -> Option<Sequence> {
-    let index = found?;
-    Some(Sequence {
-        length: length(pile, index),
-        first: symbol_at(pile, index, 0),
-        second: symbol_at(pile, index, 1),
-    })
+/// How long a word is, and its first two symbols.
+fn read_off(word: &Word<MOST>) -> Sequence {
+    let symbols = word.as_slice();
+    Sequence {
+        length: symbols.len(),
+        first: symbols.first().copied(),
+        second: symbols.get(1).copied(),
+    }
 }
 
 /// What a search at the first state finds.
@@ -97,16 +100,16 @@ fn find<D: Domain, W: Watcher>(
     watcher: &W,
 ) -> Result<Option<Sequence>, Refusal> {
     let tested = Tested::new(schema)?;
-    let mut slots = [UNUSED; 8];
-    let mut pile = Pile::new(&mut slots);
+    let mut slots = [UNUSED; ROW_PAIRS];
+    let mut slots = RowSlots::new(&mut slots)?;
     let question = Question {
         tested: &tested,
         state: 0,
         symbols,
         watcher,
     };
-    let found = question.search(&mut pile);
-    Ok(read_off(&pile, found))
+    let found: Option<Word<MOST>> = question.shortest(&mut slots);
+    Ok(found.as_ref().map(read_off))
 }
 
 /// What a search for a sequence of the first schema finds that the second refuses.

@@ -4,7 +4,8 @@ ghost use Rattle.search.specs.Watching.{Watching, StatesBelow};
 
 use schema::faults::STATE_ROWS;
 
-/// How many states a watcher has at most: one for each row that a state of a schema can have, and one more.
+/// How many states a watcher has at most: one for each row that a state of a schema can have, and
+/// one more.
 pub const WATCHER_STATES: u8 = STATE_ROWS + 1;
 
 /// A small machine over symbols, with states below WATCHER_STATES.

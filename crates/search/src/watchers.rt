@@ -1,8 +1,9 @@
-//! The watchers: for any sequence, for one that holds a symbol, and for one that a state of another schema refuses.
+//! The watchers: for any sequence, for one that holds a symbol, and for one that a state of another
+//! schema refuses.
 ghost use Rattle.std.specs.Prelude.{◌≡◌, ℕ, ◌<◌, not, List, Decides};
 ghost use Rattle.std.proofs.Common.{lit≤};
 ghost use Rattle.schema.specs.Automata.{allowed};
-ghost use Rattle.schema.specs.Tables.{automaton_of};
+ghost use Rattle.schema.specs.Meaning.{IsState, meaning};
 ghost use Rattle.search.specs.Watching.{wanted, anything, anything_low, holding, holding_low, Holds, refusing, refusing_low};
 
 use crate::watcher::Watcher;
@@ -79,7 +80,7 @@ impl Watcher for Holding {
 }
 
 /// The state of a watcher that has no row any more.
-// A number and no Option: a state is a bit of the search's masks and a byte of the pairs that the caller lends.
+// A number: a watcher's state is a bit of the search's masks and a byte of the pairs.
 const GONE: u8 = STATE_ROWS;
 
 /// Wants the sequences that are not allowed at a state of a schema.
@@ -94,18 +95,21 @@ impl<'a, 'b, D: Domain> Refused<'a, 'b, D> {
     pub fn new(tested: &'a Tested<'b, D>, state: u8) -> Refused<'a, 'b, D>
         ensures schema { result.tested.now ≡ tested.now }
         ensures at { result.state ≡ state }
-        ensures means { state < tested.now.measured.schema.states → (w : List ℕ) → wanted (refusing (automaton_of D.Domain.holds result.tested.now.measured.schema) result.state) w ≡ not (allowed (automaton_of D.Domain.holds tested.now.measured.schema) state w) }
+        ensures means { IsState tested.now state →
+            (w : List ℕ) →
+            wanted (refusing (meaning D.Domain.holds result.tested.now) result.state) w ≡
+            not (allowed (meaning D.Domain.holds tested.now) state w) }
     {
         Refused { tested, state }
     }
 }
 
 impl<D: Domain> Watcher for Refused<'_, '_, D> {
-    ghost watching = { λ r. refusing (automaton_of D.Domain.holds r.tested.now.measured.schema) r.state };
+    ghost watching = { λ r. refusing (meaning D.Domain.holds r.tested.now) r.state };
 
     ghost states = { 17 };
 
-    ghost low = { λ r. refusing_low (automaton_of D.Domain.holds r.tested.now.measured.schema) r.state };
+    ghost low = { λ r. refusing_low (meaning D.Domain.holds r.tested.now) r.state };
 
     ghost few = { lit≤ tt };
 

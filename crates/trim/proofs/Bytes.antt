@@ -3,7 +3,7 @@ use Rattle.std.proofs.Common.{◌≡◌, ℕ, zero, suc, ◌+◌, ◌*◌, ◌/�
 use native.Mathlib.Nat.{mod-add-div}
 use lib.Arith.{digits_lt}
 use Rattle.std.proofs.lemmas.Bool.{cond-true}
-use Rattle.schema.specs.Below.{sum_below}
+use Rattle.bits.specs.Below.{sum_below}
 use Rattle.schema.specs.Tables.{Tables, transition_byte, state_byte, domain_number, row_count, first_row, row_start, end_mark, row_byte}
 use Rattle.trim.specs.Trimmed.{joined, number, new_transition, new_entry, rows_before, transition_line, state_line, row_line, row_lines, trimmed}
 use Rattle.trim.proofs.Joined.{length_joined, joined_step, get_or_piece, length_singles, get_or_singles}

@@ -1,8 +1,7 @@
 -- States gathered along live symbols are those that are kept. Assumes nothing.
-use Rattle.std.proofs.Common.{◌≡◌, ℕ, ◌<◌, ◌≤◌, Bool, true, ◌&&◌, ◌||◌, eqb, ltb, List, [], ◌∷◌, ◌++◌, Some, Decides, sym, refl, ap, ◌∙◌, subst, inl, inr, ⊎_elim, arith}
+use Rattle.std.proofs.Common.{false, ◌≡◌, ℕ, ◌<◌, ◌≤◌, Bool, true, ◌&&◌, ◌||◌, eqb, ltb, List, [], ◌∷◌, ◌++◌, Some, Decides, sym, refl, ap, ◌∙◌, subst, inl, inr, ⊎_elim, arith}
 use Rattle.std.proofs.lemmas.Option.{same_Some}
-use Rattle.domain.specs.Kinds.{bit, in_bits}
-use Rattle.domain.specs.Sets.{Empty, First, alone}
+use Rattle.bits.specs.Bits.{bit, LowestMember, without}
 use Rattle.schema.specs.declared.tested.Tested.{Tested}
 use Rattle.schema.specs.Automata.{Automaton}
 use Rattle.schema.specs.Live.{LiveSymbol, LivePath}
@@ -64,14 +63,14 @@ module _ {D : Type 0} (holds : D → ℕ → Bool) (t : Tested D) (permitted : �
   pub led_start : (one : ℕ) → ((i : ℕ) → bit one i ≡ (bit 0 i || (ltb 0 64 && eqb 0 i))) → LedSoFar one 0
   led_start one = partly_start (LiveEdge over_permitted) Led 0 t.measured.schema.states few ([], refl) led_on led_inside one (omega (arith, (sized (tables t.measured.schema) t.measured.sized).states.from))
 
-  pub led_here : (reached done q : ℕ) → LedSoFar reached done → First (alone (in_bits reached) (in_bits done)) q → q < t.measured.schema.states
+  pub led_here : (reached done q : ℕ) → LedSoFar reached done → LowestMember (without (bit reached) (bit done)) q → q < t.measured.schema.states
   led_here reached done q so least = (partly_here (LiveEdge over_permitted) Led 0 t.measured.schema.states few ([], refl) led_on led_inside reached done q so least).1
 
-  pub led_more : (reached done q done' reached' : ℕ) → LedSoFar reached done → First (alone (in_bits reached) (in_bits done)) q → ((i : ℕ) → bit done' i ≡ (bit done i || (ltb q 64 && eqb q i))) → AfterEdge (LiveEdge over_permitted) q reached reached' → LedSoFar reached' done'
+  pub led_more : (reached done q done' reached' : ℕ) → LedSoFar reached done → LowestMember (without (bit reached) (bit done)) q → ((i : ℕ) → bit done' i ≡ (bit done i || (ltb q 64 && eqb q i))) → AfterEdge (LiveEdge over_permitted) q reached reached' → LedSoFar reached' done'
   led_more = partly_more (LiveEdge over_permitted) Led 0 t.measured.schema.states few ([], refl) led_on led_inside
 
   -- where nothing is left to do, just the states on live paths from the start were reached
-  pub led_done : (reached done : ℕ) → LedSoFar reached done → Empty (alone (in_bits reached) (in_bits done)) → (q : ℕ) → Decides (bit reached q) (Led q)
+  pub led_done : (reached done : ℕ) → LedSoFar reached done → ((i : ℕ) → i < 64 → without (bit reached) (bit done) i ≡ false) → (q : ℕ) → Decides (bit reached q) (Led q)
   led_done reached done so none q =
       let closed = partly_done (LiveEdge over_permitted) Led 0 t.measured.schema.states few ([], refl) led_on led_inside reached done so none in
       (so.only q, λ led. closed_path over_permitted reached closed led.0 0 q so.start led.1)

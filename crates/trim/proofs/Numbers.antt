@@ -1,7 +1,7 @@
 -- Kept states are numbered in ascending order: the numbers below their count are just theirs. Assumes nothing.
 use Rattle.std.proofs.Common.{◌≡◌, ℕ, zero, suc, ◌+◌, ◌<◌, ◌≤◌, Bool, true, false, cond, refl, ap, ⊎_elim, arith}
 use Rattle.std.proofs.lemmas.Bool.{cases_lt}
-use Rattle.schema.specs.Below.{count_below}
+use Rattle.bits.specs.Below.{count_below}
 use Rattle.trim.proofs.Joined.{sum_step}
 
 module _ (kept : ℕ → Bool) where

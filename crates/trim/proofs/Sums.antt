@@ -4,7 +4,7 @@ use Rattle.std.specs.List.{range_with_len}
 use Rattle.std.proofs.lemmas.List.{map-append, map-id}
 use Rattle.std.proofs.lemmas.List.FromFn.{filter_of_map_range_with_len_more}
 use Rattle.std.proofs.lemmas.List.Sums.{sum_by-append}
-use Rattle.schema.specs.Below.{sum_below}
+use Rattle.bits.specs.Below.{sum_below}
 
 module _ (test : ℕ → Bool) (f : ℕ → ℕ) where
   -- one number more

@@ -1,7 +1,7 @@
 -- The trimmed tables, byte by byte. Assumes nothing.
 use Rattle.std.specs.Prelude.{ℕ, zero, suc, ◌/◌, ◌%◌, Bool, cond, ◌&&◌, List, [], ◌∷◌, ◌++◌}
 use Rattle.schema.specs.Automata.{passes}
-use Rattle.schema.specs.Below.{sum_below, count_below}
+use Rattle.bits.specs.Below.{sum_below, count_below}
 use Rattle.schema.specs.Tables.{Tables, entry, transition_byte, domain_number, row_count, end_mark, row_byte}
 
 -- what each number below n has, one after the other

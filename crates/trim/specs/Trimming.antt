@@ -1,6 +1,6 @@
 -- The trimmed tables of a schema with what is kept of it. Assumes nothing.
 use Rattle.std.specs.Prelude.{◌≡◌, ℕ, Bool, List}
-use Rattle.domain.specs.Kinds.{bit}
+use Rattle.bits.specs.Bits.{bit}
 use Rattle.schema.specs.declared.tested.Tested.{Tested}
 use Rattle.schema.specs.Tables.{Tables, tables, sets}
 use Rattle.trim.specs.declared.trimming.Trimming.{Trimming}

@@ -1,15 +1,15 @@
 //! Which states are kept: those that live symbols lead to from the start.
 ghost use Rattle.std.specs.Prelude.{◌≡◌, ℕ, true, if◌then◌else◌, None, Decides};
-ghost use Rattle.domain.specs.Kinds.{bit};
+ghost use Rattle.bits.specs.Bits.{bit};
 ghost use Rattle.schema.specs.Live.{LiveMask};
 ghost use Rattle.schema.specs.Permitted.{permit};
 ghost use Rattle.schema.specs.Rows.{AfterEdge};
 ghost use Rattle.schema.specs.Tables.{automaton_of};
 ghost use Rattle.trim.specs.Kept.{Kept, LedTo};
 
+use bits::gathering::gather_onto;
+use bits::sets::{has_member, lowest_alone, with_member};
 use domain::domain::Domain;
-use domain::keywords::lowest_alone;
-use schema::sets::{gather_onto, has_member, with_member};
 use schema::tested::Tested;
 
 /// The state that a schema starts from.
@@ -44,9 +44,9 @@ pub(crate) fn kept_states<D: Domain>(tested: &Tested<D>, live: u64, permitted: u
     let mut reached = with_member(0, START);
     let mut done = 0;
     while let Some(state) = lowest_alone(reached, done) {
-        done = with_member(done, state as u8);
-        let symbols = tested.live_symbols(state as u8, live, permitted);
-        reached = states_after(tested, state as u8, symbols, reached);
+        done = with_member(done, state);
+        let symbols = tested.live_symbols(state, live, permitted);
+        reached = states_after(tested, state, symbols, reached);
     }
     reached
 }

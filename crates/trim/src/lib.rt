@@ -2,7 +2,7 @@
 #![tactic(auto)]
 
 ghost use Rattle.std.specs.Prelude.{◌≡◌};
-ghost use Rattle.domain.specs.Kinds.{bit};
+ghost use Rattle.bits.specs.Bits.{bit};
 ghost use Rattle.schema.specs.Tables.{tables, sets};
 ghost use Rattle.trim.specs.Examples.{SmallTrims};
 ghost use Rattle.trim.specs.Law.{TrimmingLaw};

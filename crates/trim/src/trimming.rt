@@ -1,15 +1,15 @@
 //! A schema with what is kept of it, and the bytes of its trimmed tables one by one.
 ghost use Rattle.std.specs.Prelude.{◌≡◌, ◌/◌, ◌%◌, ◌^◌, ◌<◌, ◌≤◌, [], ◌∷◌, MatchResult};
-ghost use Rattle.domain.specs.Kinds.{bit};
+ghost use Rattle.bits.specs.Bits.{bit};
 ghost use Rattle.schema.specs.Tables.{tables, sets, domain_number, row_count, end_mark};
 ghost use Rattle.trim.specs.Outcome.{NothingLeft};
 ghost use Rattle.trim.specs.Trimming.{TrimmingOf, tables_of, kept_of, number_of, rows_before_of, stays_of, new_transition_of, new_entry_of, trimmed_of};
 
 use crate::kept::{START, kept_states};
+use bits::sets::{has_member, members_below};
 use domain::domain::Domain;
 use refusal::fault::{Fault, Refusal};
 use schema::faults::NONE;
-use schema::sets::{has_member, members_below};
 use schema::tables::STATE_BYTES;
 use schema::tested::Tested;
 

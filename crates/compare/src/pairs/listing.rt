@@ -5,7 +5,7 @@ ghost use Rattle.compare.specs.Listing.{entries_of, FewPairs, EntriesFit, Listed
 ghost use Rattle.compare.specs.Pairs.{listed, fits, after_listing};
 
 use crate::pairs::{Listed, PLACES, Pairs};
-use schema::sets::{has_member, with_member};
+use bits::sets::{has_member, with_member};
 use schema::tables::STATES;
 
 /// A slot without an entry.

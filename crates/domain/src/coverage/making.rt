@@ -1,6 +1,6 @@
 //! Making a coverage: the rule that its ranges follow, and the refusals of those that do not.
 ghost use Rattle.std.specs.Prelude.{◌≡◌, length, MatchOption};
-ghost use Rattle.domain.specs.Making.{Follows, Breaks, Makes, OneAnswer};
+ghost use Rattle.domain.specs.Making.{Follows, Breaks, Makes, MakingLaws};
 
 use super::{Coverage, RANGES, Range};
 use refusal::fault::{Fault, Refusal};
@@ -27,10 +27,11 @@ fn first_broken(ranges: &[Range]) -> Option<usize>
 }
 
 impl Coverage {
-    /// The coverage of these ranges, or the refusal of too many or of the first that breaks the rule.
+    /// The coverage of these ranges, or the refusal of too many or of the first that breaks the
+    /// rule.
     pub fn new(ranges: &[Range]) -> Result<Coverage, Refusal>
         ensures answer { Makes ranges.now result }
-        ensures one { OneAnswer }
+        ensures laws { MakingLaws }
     {
         if ranges.len() > RANGES {
             return Err(Fault::Size.at(0));

@@ -1,6 +1,6 @@
 -- The tests in their order, and then the beginning. Assumes nothing.
 use Rattle.std.proofs.Common.{◌≡◌, ◌<◌, None, sym, ap, ◌∙◌, subst, arith}
-use Rattle.domain.specs.Kinds.{bit}
+use Rattle.bits.specs.Bits.{bit}
 use Rattle.schema.specs.declared.tables.Schema.{Schema}
 use Rattle.schema.specs.declared.tested.Tested.{Tested}
 use Rattle.schema.specs.Tables.{tables, sets}

@@ -1,7 +1,7 @@
 -- A live state has a value, and a sequence into states of lower rank. Assumes nothing.
 use Rattle.std.proofs.Common.{ℕ, ◌<◌, ltb, Some, sym, refl, arith}
 use Rattle.std.proofs.lemmas.Bool.{and_parts, ltb-true}
-use Rattle.domain.specs.Kinds.{bit}
+use Rattle.bits.specs.Bits.{bit}
 use Rattle.schema.specs.Tables.{tables, sets, automaton_of}
 use Rattle.schema.proofs.Sizes.{sized}
 use Rattle.schema.proofs.Sound.{sound}

@@ -1,6 +1,6 @@
 -- The live states below the one that comes next have their seeds.
 use Rattle.std.proofs.Common.{◌≡◌, ℕ, ◌<◌, ◌≤◌, true, Some, length}
-use Rattle.domain.specs.Kinds.{bit}
+use Rattle.bits.specs.Bits.{bit}
 use Rattle.schema.specs.Live.{Ranked}
 use Rattle.schema.specs.Tables.{automaton_of}
 use Rattle.document.specs.declared.samples.Seed.{Seed}

@@ -1,5 +1,5 @@
 use Rattle.std.proofs.Common.{arith, rules}
-use Rattle.domain.specs.Kinds.{bit}
+use Rattle.bits.specs.Bits.{bit}
 use Rattle.document.proofs.Ranking.{below_decides}
 use Rattle.document.proofs.samples.states_below.Goals as goal
 

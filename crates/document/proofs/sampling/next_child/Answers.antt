@@ -3,7 +3,7 @@ use Rattle.std.proofs.Common.{◌≡◌, ℕ, true, ◌<◌, Some, sym, ap, ◌�
 use Rattle.std.proofs.lemmas.Option.{none-some, same_Some}
 use Rattle.codec.specs.declared.item.Level.{Level}
 use Rattle.codec.specs.Trees.{Tree, Children, child, word}
-use Rattle.domain.specs.Kinds.{bit}
+use Rattle.bits.specs.Bits.{bit}
 use Rattle.schema.specs.Tables.{sets}
 use Rattle.document.specs.declared.level.Spot.{Spot}
 use Rattle.document.specs.declared.level.Spot.TheVariants.{State}

@@ -1,7 +1,7 @@
 -- The number stands at the members that the loop has passed. Assumes nothing.
 use Rattle.std.proofs.Common.{◌≡◌, ℕ, ◌<◌, ◌≤◌, cond, Some}
 use Rattle.std.specs.List.{slice_get}
-use Rattle.domain.specs.Kinds.{bit}
+use Rattle.bits.specs.Bits.{bit}
 use Rattle.schema.proofs.live.note.Given as goal
 
 abbrev pub invariant-loop-state : goal.invariant-loop-state

@@ -1,5 +1,5 @@
 -- States are done until none is left. Assumes nothing.
-use Rattle.domain.specs.Kinds.{bit}
+use Rattle.bits.specs.Bits.{bit}
 use Rattle.schema.specs.Tables.{automaton_of}
 use Rattle.trim.proofs.Keeping.{after_live, led_start, led_here, led_more, led_done}
 use Rattle.trim.proofs.kept.kept_states.Goals as goal

@@ -1,7 +1,7 @@
 -- Each symbol is tried. Assumes nothing.
 use Rattle.std.proofs.Common.{cond, None, rules, ◌∙◌, arith}
 use Rattle.std.proofs.lemmas.Bool.{cond-true}
-use Rattle.domain.specs.Kinds.{bit}
+use Rattle.bits.specs.Bits.{bit}
 use Rattle.schema.specs.Tables.{tables, sets, automaton_of}
 use Rattle.schema.proofs.Gathering.{edges_of_led, chosen_some}
 use Rattle.schema.proofs.Sizes.{sized}

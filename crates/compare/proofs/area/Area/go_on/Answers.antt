@@ -1,6 +1,6 @@
 -- The live symbols, what they list, and whether a pair is left. Assumes nothing.
 use Rattle.std.proofs.Common.{◌≡◌, ℕ, ◌+◌, length, sym, ap, ◌∙◌, arith}
-use Rattle.domain.specs.Kinds.{bit}
+use Rattle.bits.specs.Bits.{bit}
 use Rattle.schema.specs.Permitted.{permit}
 use Rattle.schema.specs.Tables.{tables, sets}
 use Rattle.schema.proofs.Permits.{permit_all}

@@ -1,6 +1,6 @@
 -- The search finds a sequence over the symbols into live states that the second state refuses, if there is one. Assumes nothing.
 use Rattle.std.proofs.Common.{Bool, length, Decides, sym, ap, subst, arith}
-use Rattle.domain.specs.Kinds.{bit}
+use Rattle.bits.specs.Bits.{bit}
 use Rattle.schema.specs.Tables.{tables, sets, automaton}
 use Rattle.schema.proofs.Sound.{sound}
 use Rattle.search.specs.Watching.{refusing}

@@ -1,6 +1,6 @@
 -- Symbol by symbol: the pair of next states is listed where it is there. Assumes nothing.
 use Rattle.std.proofs.Common.{◌≡◌, ℕ, ◌<◌, length, Some, sym, ap, ◌∙◌, subst, add-one, arith}
-use Rattle.domain.specs.Kinds.{bit}
+use Rattle.bits.specs.Bits.{bit}
 use Rattle.schema.specs.Tables.{tables, sets}
 use Rattle.schema.proofs.Sound.{sound}
 use Rattle.compare.specs.declared.pairs.Pairs.{Pairs}

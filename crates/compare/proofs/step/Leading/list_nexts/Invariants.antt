@@ -1,6 +1,6 @@
 -- The pairs of next states under the symbols so far are listed. Assumes nothing.
 use Rattle.std.proofs.Common.{◌≡◌, ◌<◌, length}
-use Rattle.domain.specs.Kinds.{bit}
+use Rattle.bits.specs.Bits.{bit}
 use Rattle.compare.specs.Listing.{entries_of}
 use Rattle.compare.specs.Schemas.{first_automaton, second_automaton, StatePair}
 use Rattle.compare.specs.Stepping.{with_nexts}

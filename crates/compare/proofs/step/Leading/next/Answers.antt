@@ -1,7 +1,7 @@
 -- A next state is missing, or both are there. Assumes nothing.
 use Rattle.std.proofs.Common.{Bool, true, Some, sym, ap, ◌∙◌}
 use Rattle.schema.specs.Tables.{sets, automaton_of}
-use Rattle.domain.specs.Kinds.{bit}
+use Rattle.bits.specs.Bits.{bit}
 use Rattle.compare.specs.Stepping.{next_pair}
 use Rattle.compare.proofs.Nexts.{first_missing, second_missing}
 use Rattle.compare.proofs.step.Leading.next.Goals as goal

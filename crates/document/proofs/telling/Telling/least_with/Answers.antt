@@ -1,6 +1,6 @@
 -- The search finds the first of the live sequences that are wanted, and it is short enough to be kept. Assumes nothing.
 use Rattle.std.proofs.Common.{◌≡◌, ℕ, true, List, length, sym, ap, subst, arith}
-use Rattle.domain.specs.Kinds.{bit}
+use Rattle.bits.specs.Bits.{bit}
 use Rattle.schema.specs.Live.{LiveSequence}
 use Rattle.schema.specs.Tables.{tables, sets}
 use Rattle.schema.proofs.Sound.{sound}

@@ -1,6 +1,6 @@
 -- Each row is asked whether it was reached and may end. Assumes nothing.
 use Rattle.std.proofs.Common.{ℕ, ◌<◌, Bool, ◌&&◌, Decides, rules, sym, ap, ◌∙◌, subst, arith}
-use Rattle.domain.specs.Kinds.{bit}
+use Rattle.bits.specs.Bits.{bit}
 use Rattle.schema.specs.Below.{some_below}
 use Rattle.schema.specs.Rows.{RunsOverFrom}
 use Rattle.schema.specs.Tables.{tables, sets, automaton_of, row_count}

@@ -1,6 +1,6 @@
 -- With a value and with a sequence. Assumes nothing.
 use Rattle.std.proofs.Common.{bit_and, refl, sym, ◌∙◌}
-use Rattle.domain.specs.Kinds.{bit}
+use Rattle.bits.specs.Bits.{bit}
 use Rattle.schema.specs.Automata.{passes}
 use Rattle.schema.specs.Permitted.{automaton_over}
 use Rattle.schema.specs.Tables.{automaton_of}

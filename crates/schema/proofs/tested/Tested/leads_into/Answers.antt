@@ -1,6 +1,6 @@
 -- The next state, where there is one, is in the set. Assumes nothing.
 use Rattle.std.proofs.Common.{rules, ap, ◌∙◌}
-use Rattle.domain.specs.Kinds.{bit}
+use Rattle.bits.specs.Bits.{bit}
 use Rattle.schema.specs.Automata.{passes}
 use Rattle.schema.specs.Tables.{sets}
 use Rattle.schema.proofs.Chains.{passes_from_is_some_and}

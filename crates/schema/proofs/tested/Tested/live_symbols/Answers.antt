@@ -1,6 +1,6 @@
 -- The sequences over the symbols into live states are the live ones. Assumes nothing.
 use Rattle.std.proofs.Common.{bit_and, sym}
-use Rattle.domain.specs.Kinds.{bit}
+use Rattle.bits.specs.Bits.{bit}
 use Rattle.schema.specs.Automata.{passes}
 use Rattle.schema.specs.Permitted.{automaton_over}
 use Rattle.schema.specs.Tables.{tables, sets, automaton_of}

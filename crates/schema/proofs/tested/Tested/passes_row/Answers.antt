@@ -1,6 +1,6 @@
 -- Reached, and on to a row of the set. Assumes nothing.
 use Rattle.std.proofs.Common.{Bool, ◌&&◌, rules, ap, ◌∙◌}
-use Rattle.domain.specs.Kinds.{bit}
+use Rattle.bits.specs.Bits.{bit}
 use Rattle.schema.specs.Automata.{passes}
 use Rattle.schema.specs.Tables.{sets, automaton_of}
 use Rattle.schema.proofs.Chains.{passes_from_is_some_and}

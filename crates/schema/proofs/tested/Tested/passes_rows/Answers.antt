@@ -1,6 +1,6 @@
 -- Each row of the state is tried. Assumes nothing.
 use Rattle.std.proofs.Common.{ℕ, Bool, ◌&&◌, rules, ap, ◌∙◌}
-use Rattle.domain.specs.Kinds.{bit}
+use Rattle.bits.specs.Bits.{bit}
 use Rattle.schema.specs.Automata.{passes}
 use Rattle.schema.specs.Below.{some_below}
 use Rattle.schema.specs.Tables.{automaton_of}

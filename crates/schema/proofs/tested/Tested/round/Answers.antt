@@ -1,10 +1,10 @@
 -- Each state is tried. Assumes nothing.
 use Rattle.std.proofs.Common.{rules, arith}
-use Rattle.domain.specs.Kinds.{bit}
+use Rattle.bits.specs.Bits.{bit}
 use Rattle.schema.specs.Live.{New}
 use Rattle.schema.specs.Permitted.{automaton_over}
 use Rattle.schema.specs.Tables.{tables}
-use Rattle.schema.proofs.Members.{gathered_where}
+use Rattle.bits.proofs.Members.{gathered_where}
 use Rattle.schema.proofs.Sizes.{sized}
 use Rattle.schema.proofs.tested.Tested.round.Goals as goal
 

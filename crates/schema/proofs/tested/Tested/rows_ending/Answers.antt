@@ -1,9 +1,9 @@
 -- Each row of the state is tried. Assumes nothing.
 use Rattle.std.proofs.Common.{rules, arith}
-use Rattle.domain.specs.Kinds.{bit}
+use Rattle.bits.specs.Bits.{bit}
 use Rattle.schema.specs.Rows.{RunsOverFrom}
 use Rattle.schema.specs.Tables.{tables, sets, automaton_of, row_count}
-use Rattle.schema.proofs.Members.{gathered_where}
+use Rattle.bits.proofs.Members.{gathered_where}
 use Rattle.schema.proofs.Sound.{sound}
 use Rattle.schema.proofs.tested.Tested.rows_ending.Goals as goal
 

@@ -1,6 +1,6 @@
 -- Rows are done until none is left. Assumes nothing.
 use Rattle.std.proofs.Common.{ℕ, ◌<◌, [], refl, subst, arith}
-use Rattle.domain.specs.Kinds.{bit}
+use Rattle.bits.specs.Bits.{bit}
 use Rattle.schema.specs.Rows.{RowEdge, LeadsOver, ReachedFrom}
 use Rattle.schema.specs.Tables.{tables, sets, automaton, row_count}
 use Rattle.schema.proofs.Gathering.{partly_start, partly_more, partly_done, leads_on}

@@ -1,6 +1,6 @@
 -- The rows done lead to rows that were reached. Assumes nothing.
 use Rattle.std.proofs.Common.{◌-◌, ◌^◌, ◌<◌}
-use Rattle.domain.specs.Kinds.{bit}
+use Rattle.bits.specs.Bits.{bit}
 use Rattle.schema.specs.Rows.{RowEdge, LeadsOver}
 use Rattle.schema.specs.Tables.{tables, sets, automaton, row_count}
 use Rattle.schema.proofs.Gathering.{Partly}

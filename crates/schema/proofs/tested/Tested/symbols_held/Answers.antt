@@ -1,7 +1,7 @@
 -- Each symbol is tried; one that a sequence holds is a symbol of the schema. Assumes nothing.
 use Rattle.std.proofs.Common.{◌≡◌, ℕ, ◌<◌, Bool, ◌&&◌, Some, rules, sym, refl, ◌∙◌, arith}
 use Rattle.std.proofs.lemmas.Bool.{and_parts}
-use Rattle.domain.specs.Kinds.{bit}
+use Rattle.bits.specs.Bits.{bit}
 use Rattle.schema.specs.Automata.{passes}
 use Rattle.schema.specs.Below.{some_below}
 use Rattle.schema.specs.Tables.{tables, sets, automaton_of, row_count}

@@ -1,10 +1,10 @@
 -- Each symbol is tried; past the symbols none leads anywhere. Assumes nothing.
 use Rattle.std.proofs.Common.{rules, ap, arith}
 use Rattle.std.proofs.lemmas.Bool.{cond-false, le-ltb}
-use Rattle.domain.specs.Kinds.{bit}
+use Rattle.bits.specs.Bits.{bit}
 use Rattle.schema.specs.Automata.{passes}
 use Rattle.schema.specs.Tables.{tables, automaton_of}
-use Rattle.schema.proofs.Members.{gathered}
+use Rattle.bits.proofs.Members.{gathered}
 use Rattle.schema.proofs.Sizes.{sized}
 use Rattle.schema.proofs.tested.Tested.symbols_into.Goals as goal
 

@@ -1,7 +1,7 @@
 -- What is kept, or that nothing is left. Assumes nothing.
 use Rattle.std.proofs.Common.{◌<◌, [], sym, refl, arith}
 use Rattle.std.proofs.lemmas.Bool.{both_ways}
-use Rattle.domain.specs.Kinds.{bit}
+use Rattle.bits.specs.Bits.{bit}
 use Rattle.schema.specs.Tables.{tables}
 use Rattle.schema.proofs.Sizes.{sized, sound_tables}
 use Rattle.trim.proofs.trimming.Trimming.new.Goals as goal

@@ -1,7 +1,0 @@
--- As far as the slots are filled, they hold the sequence.
-use Rattle.std.proofs.Common.{◌≡◌, ℕ, ◌≤◌, List, length, take}
-use Rattle.search.specs.Pairs.{Spells}
-use Rattle.document.proofs.word.Word.read.Given as goal
-
-abbrev pub invariant-loop-position : goal.invariant-loop-position
-invariant-loop-position g l = (w : List ℕ) → Spells l.pile.entries l.index w → length w ≤ g.row.N → take l.position l.symbol-items ≡ take l.position w
