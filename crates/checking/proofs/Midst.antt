@@ -9,7 +9,7 @@ use Rattle.codec.specs.declared.item.Item.TheVariants.{Value, Symbol, End}
 use Rattle.codec.specs.declared.item.Level.{Level}
 use Rattle.codec.specs.Items.{Progress, input, midway, Hands, Walks}
 use Rattle.codec.specs.Piles.{slots, topmost}
-use Rattle.codec.specs.Reading.{read_tree, whole}
+use Rattle.codec.specs.Reading.{read_all}
 use Rattle.codec.proofs.Slots.{topmost_of}
 use Rattle.schema.specs.Automata.{Automaton}
 use Rattle.checking.specs.declared.cursor.Cursor.{Cursor}
@@ -20,7 +20,7 @@ use Rattle.checking.proofs.Outcome.{outcome, on_value, on_end, on_strange, on_sy
 
 module _ (A : Automaton) (s : ℕ) (tree : List ℕ) (room : ℕ) where
   abbrev pub the_verdict : Result Bool Refusal
-  the_verdict = verdict A (whole (length tree) s (read_tree (length tree) s room tree))
+  the_verdict = verdict A (read_all s room tree)
 
   -- the outcome of what is left is the verdict on the tree
   pub record Midst (p : Progress Cursor) (answer : Option ℕ) : Type 0 where
