@@ -13,13 +13,15 @@ use Rattle.schema.proofs.Gathering.{chosen_some}
 use Rattle.schema.proofs.Sizes.{sized, sound_size}
 use Rattle.schema.proofs.Sound.{sound}
 use Rattle.trim.specs.Kept.{Kept, Used}
-use Rattle.trim.specs.Law.{Trims, TrimmingLaw}
+use Rattle.trim.specs.Law.{Trims, TrimmingLaw, TrimLaws}
 use Rattle.trim.specs.Trimmed.{number, trimmed}
 use Rattle.trim.proofs.Numbers.{numbered}
 use Rattle.trim.proofs.Paths.{kept_on, kept_used, used_kept}
 use Rattle.trim.proofs.Permits.{accepts_permitted, bound_permitted}
 use Rattle.trim.proofs.Simulates.{renumber, root_renumber, occurs_renumber, bound_new, accepts_new, accepts_old}
+use Rattle.trim.proofs.Small.{small_trims}
 use Rattle.trim.proofs.Sound.{trimmed_sound}
+use Rattle.trim.proofs.Unique.{one_trimming}
 
 -- where every symbol is permitted, every tree is over permitted symbols
 mutual
@@ -80,5 +82,9 @@ module _ (T : Tables) (domains : List (ℕ → Bool)) (permitted kept : ℕ → 
         useful = useful;
       }
 
-pub trimming_law : TrimmingLaw
+trimming_law : TrimmingLaw
 trimming_law = record { reading = λ A permitted q t. accepts_permitted permitted A q t; trims = trims }
+
+-- what holds of `trim`
+pub trim_laws : TrimLaws
+trim_laws = record { one = one_trimming; trimming = trimming_law; examples = small_trims }

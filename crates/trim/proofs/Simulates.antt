@@ -9,10 +9,11 @@ use Rattle.schema.specs.Faults.{table_fault}
 use Rattle.schema.specs.Live.{LiveSymbol}
 use Rattle.schema.specs.Permitted.{permit}
 use Rattle.schema.specs.Tables.{Tables, automaton, row_count}
+use Rattle.schema.proofs.Permits.{permit_runs}
 use Rattle.schema.proofs.Bound.{passed, accepted_is_bound}
 use Rattle.trim.specs.Trimmed.{number, trimmed}
 use Rattle.trim.proofs.Paths.{bound_live}
-use Rattle.trim.proofs.Permits.{runs_permitted, next_of_bound}
+use Rattle.trim.proofs.Permits.{next_of_bound}
 use Rattle.trim.proofs.Steps.{Goes, goes, old_sound, next_on, next_back, has_same, runs_on, runs_back}
 
 -- the states of the nodes, each by its new number
@@ -54,7 +55,7 @@ module _ (T : Tables) (domains : List (ℕ → Bool)) (permitted kept : ℕ → 
     bound_new (node v cs) (at q bs) bound there =
         let below = below_new q cs bs there (bound_live (permit permitted (automaton T domains)) v cs q bs bound) bound.2 in
         let runs = (and_parts (row_runs (permit permitted (automaton T domains)) q 0 (word cs)) _ bound.1).0 in
-        let old-runs = sym (runs_permitted permitted (automaton T domains) q 0 (word cs)) ∙ runs in (
+        let old-runs = sym (permit_runs permitted (automaton T domains) q 0 (word cs)) ∙ runs in (
           has_same T domains permitted kept fault inside q there v ∙ bound.0,
           and_from _ _ (runs_on T domains permitted kept fault inside q there (word cs) 0 (some_row q there) below.0 old-runs) (next_of_bound (automaton (trimmed T permitted kept) domains) (number T permitted kept q) cs (renumber_all (number T permitted kept) bs) below.1),
           below.1,
@@ -86,7 +87,7 @@ module _ (T : Tables) (domains : List (ℕ → Bool)) (permitted kept : ℕ → 
         let content = and_parts (allowed (automaton (trimmed T permitted kept) domains) (number T permitted kept q) (word cs)) _ value.1 in
         let runs = (and_parts (row_runs (automaton (trimmed T permitted kept) domains) (number T permitted kept q) 0 (word cs)) _ content.0).0 in
         let below = all_old q cs there content.1 in
-        let old-runs = runs_permitted permitted (automaton T domains) q 0 (word cs) ∙ runs_back T domains permitted kept fault inside q there (word cs) 0 (some_row q there) runs in
+        let old-runs = permit_runs permitted (automaton T domains) q 0 (word cs) ∙ runs_back T domains permitted kept fault inside q there (word cs) 0 (some_row q there) runs in
         and_from _ _ (sym (has_same T domains permitted kept fault inside q there v) ∙ value.0) (and_from _ _ (and_from _ _ old-runs (next_of_all (permit permitted (automaton T domains)) q cs below)) below)
 
     all_old : (q : ℕ) (cs : Children) → kept q ≡ true → accepts_all (automaton (trimmed T permitted kept) domains) (number T permitted kept q) cs ≡ true → accepts_all (permit permitted (automaton T domains)) q cs ≡ true

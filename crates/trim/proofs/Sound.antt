@@ -2,6 +2,7 @@
 use Rattle.std.proofs.Common.{◌≡◌, ℕ, ◌+◌, ◌*◌, ◌<◌, ◌≤◌, Bool, true, false, cond, eqb, Some, None, sym, ap, ◌∙◌, subst, ⊎_elim, arith}
 use Rattle.std.proofs.lemmas.Option.{same_Some}
 use Rattle.std.proofs.lemmas.Bool.{and_parts, cases_Bool, cond-false, cond-true, ne_eqb}
+use Rattle.bits.proofs.Counting.{count_le}
 use Rattle.schema.specs.Faults.{stray, table_fault}
 use Rattle.schema.specs.Tables.{Tables, entry, transition_byte, row_count, row_byte}
 use Rattle.schema.proofs.Bound.{passed}
@@ -11,7 +12,7 @@ use Rattle.trim.specs.Trimmed.{number, stays, new_transition, new_entry, rows_be
 use Rattle.trim.proofs.Bytes.{transitions_length, states_length, rows_length, transition_new, domain_new, row_count_new, first_row_new, end_mark_new, row_byte_new}
 use Rattle.trim.proofs.Faultless.{Fine, fine, no_fault, stray_below, stray_none}
 use Rattle.trim.proofs.Joined.{sum_step, sum_at_most}
-use Rattle.trim.proofs.Numbers.{number_below, number_upto, numbered}
+use Rattle.trim.proofs.Numbers.{number_below, numbered}
 
 -- what an entry says is its byte
 pub entry_is : (b x : ℕ) → entry b ≡ Some x → b ≡ x
@@ -59,7 +60,7 @@ module _ (T : Tables) (permitted kept : ℕ → Bool) (sound : table_fault T ≡
       few rows most limit = omega arith
 
   pub number_few : (n : ℕ) → n ≤ T.states → number T permitted kept n ≤ 64
-  number_few n upto = limit _ (number_upto kept n) (sized T (sound_size T sound)).states.to
+  number_few n upto = limit _ (count_le n kept) (sized T (sound_size T sound)).states.to
     where
       limit : (m : ℕ) → m ≤ n → T.states ≤ 64 → m ≤ 64
       limit m most few = omega arith

@@ -2,6 +2,7 @@
 use Rattle.std.proofs.Common.{◌≡◌, ℕ, ◌^◌, ◌<◌, ◌≤◌, Bool, true, false, cond, ◌&&◌, eqb, ltb, List, [], ◌∷◌, get_or, is_some, Some, None, sym, refl, ap, ◌∙◌, subst, arith}
 use Rattle.std.specs.List.{AllByRecursion}
 use Rattle.std.proofs.lemmas.Bool.{and_from, cond-true, lt-ltb}
+use Rattle.bits.proofs.Counting.{count_le}
 use Rattle.schema.specs.Automata.{passes, row_runs}
 use Rattle.schema.specs.Faults.{table_fault}
 use Rattle.schema.specs.Permitted.{permit}
@@ -12,7 +13,6 @@ use Rattle.schema.proofs.Sizes.{sized, sound_size}
 use Rattle.schema.proofs.Sound.{some_not_none, under, Sound, sound}
 use Rattle.trim.specs.Trimmed.{number, stays, new_transition, trimmed}
 use Rattle.trim.proofs.Bytes.{transition_new, domain_new, end_mark_new, row_byte_new}
-use Rattle.trim.proofs.Numbers.{number_upto}
 use Rattle.trim.proofs.Sound.{entry_is, entry_below_255, stays_tells}
 
 -- an entry that is there was not replaced
@@ -41,7 +41,7 @@ module _ (T : Tables) (domains : List (ℕ → Bool)) (permitted kept : ℕ → 
     next_on a s is kept-s =
         let on = goes q a s is kept-s in
         let told = under a T.symbols (transition_byte T q a) s (chosen_some (permitted a) _ s is).1 in
-        let low : number T permitted kept s < 255 = small _ _ _ (number_upto kept s) (inside s kept-s) (sized T (sound_size T fault)).states.to in
+        let low : number T permitted kept s < 255 = small _ _ _ (count_le s kept) (inside s kept-s) (sized T (sound_size T fault)).states.to in
         cond-true (ltb a T.symbols) (entry (transition_byte (trimmed T permitted kept) (number T permitted kept q) a)) None (lt-ltb a T.symbols on.symbol)
         ∙ ap entry (transition_new T permitted kept q (inside q there) there a on.symbol ∙ cond-true (stays T permitted kept q a) (number T permitted kept (transition_byte T q a)) 255 on.stay
         ∙ ap (number T permitted kept) (entry_is (transition_byte T q a) s told.1))

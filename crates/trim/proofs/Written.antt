@@ -7,7 +7,7 @@ use Rattle.trim.specs.declared.trimming.Trimming.{Trimming}
 use Rattle.trim.specs.Lent.{LinesFit, with_lines}
 use Rattle.trim.specs.Outcome.{Outputs, fits}
 use Rattle.trim.specs.Trimmed.{joined, kept_lines}
-use Rattle.trim.specs.Trimming.{tables_of, permitted_of, kept_of, number_of, rows_before_of, new_transition_of, transition_line_of, state_line_of, row_lines_of, trimmed_of}
+use Rattle.trim.specs.Trimming.{old_tables, permitted_of, kept_of, number_of, rows_before_of, new_transition_of, transition_line_of, state_line_of, row_lines_of, new_tables}
 use Rattle.trim.proofs.Bytes.{transitions_length, states_length, rows_length}
 use Rattle.trim.proofs.Joined.{joined_step, length_singles}
 use Rattle.trim.proofs.Lines.{part_more}
@@ -45,46 +45,46 @@ module _ {D : Type 0} (t : Trimming D) (out : Outputs) where
 
   -- each table has room
   pub record Rooms : Type 0 where
-    pub transitions : length (trimmed_of t).transitions ≤ length out.transitions
-    pub state_table : length (trimmed_of t).state_table ≤ length out.state_table
-    pub row_table : length (trimmed_of t).row_table ≤ length out.row_table
+    pub transitions : length (new_tables t).transitions ≤ length out.transitions
+    pub state_table : length (new_tables t).state_table ≤ length out.state_table
+    pub row_table : length (new_tables t).row_table ≤ length out.row_table
 
-  pub rooms : fits (trimmed_of t) out ≡ true → Rooms
+  pub rooms : fits (new_tables t) out ≡ true → Rooms
   rooms h =
       let first = and_parts _ _ h in
       let others = and_parts _ _ first.1 in
       record { transitions = leb-true _ _ first.0; state_table = leb-true _ _ others.0; row_table = leb-true _ _ others.1 }
 
   -- where a kept state's lines go
-  transitions_at : (k : ℕ) → number_of t k * (tables_of t).symbols ≡ length (kept_lines (tables_of t) (permitted_of t) (kept_of t) k (transition_line_of t))
-  transitions_at k = sym (transitions_length (tables_of t) (permitted_of t) (kept_of t) k)
+  transitions_at : (k : ℕ) → number_of t k * (old_tables t).symbols ≡ length (kept_lines (old_tables t) (permitted_of t) (kept_of t) k (transition_line_of t))
+  transitions_at k = sym (transitions_length (old_tables t) (permitted_of t) (kept_of t) k)
 
-  state_at : (k : ℕ) → 4 * number_of t k ≡ length (kept_lines (tables_of t) (permitted_of t) (kept_of t) k (state_line_of t))
-  state_at k = sym (states_length (tables_of t) (permitted_of t) (kept_of t) k)
+  state_at : (k : ℕ) → 4 * number_of t k ≡ length (kept_lines (old_tables t) (permitted_of t) (kept_of t) k (state_line_of t))
+  state_at k = sym (states_length (old_tables t) (permitted_of t) (kept_of t) k)
 
-  rows_at : (k : ℕ) → rows_before_of t k * ((tables_of t).symbols + 1) ≡ length (kept_lines (tables_of t) (permitted_of t) (kept_of t) k (row_lines_of t))
-  rows_at k = sym (rows_length (tables_of t) (permitted_of t) (kept_of t) k)
+  rows_at : (k : ℕ) → rows_before_of t k * ((old_tables t).symbols + 1) ≡ length (kept_lines (old_tables t) (permitted_of t) (kept_of t) k (row_lines_of t))
+  rows_at k = sym (rows_length (old_tables t) (permitted_of t) (kept_of t) k)
 
   -- the lines of a kept state have room there
-  pub lines_fit : (k : ℕ) (now : Outputs) → k < (tables_of t).states → kept_of t k ≡ true → Rooms → Upto k now → LinesFit t k now
+  pub lines_fit : (k : ℕ) (now : Outputs) → k < (old_tables t).states → kept_of t k ≡ true → Rooms → Upto k now → LinesFit t k now
   lines_fit k now low there room so =
-      let transitions = line_room (kept_of t) (transition_line_of t) out.transitions (tables_of t).states k low there room.transitions in
-      let state = line_room (kept_of t) (state_line_of t) out.state_table (tables_of t).states k low there room.state_table in
-      let rows = line_room (kept_of t) (row_lines_of t) out.row_table (tables_of t).states k low there room.row_table in
+      let transitions = line_room (kept_of t) (transition_line_of t) out.transitions (old_tables t).states k low there room.transitions in
+      let state = line_room (kept_of t) (state_line_of t) out.state_table (old_tables t).states k low there room.state_table in
+      let rows = line_room (kept_of t) (row_lines_of t) out.row_table (old_tables t).states k low there room.row_table in
       record {
         inside = low;
-        transitions = omega (arith, transitions, transitions_at k, length_singles (new_transition_of t k) (tables_of t).symbols, filled_length (kept_of t) (transition_line_of t) out.transitions k now.transitions so.transitions (omega (arith, transitions)));
+        transitions = omega (arith, transitions, transitions_at k, length_singles (new_transition_of t k) (old_tables t).symbols, filled_length (kept_of t) (transition_line_of t) out.transitions k now.transitions so.transitions (omega (arith, transitions)));
         state = omega (arith, state, state_at k, filled_length (kept_of t) (state_line_of t) out.state_table k now.state_table so.state_table (omega (arith, state)));
         rows = omega (arith, rows, rows_at k, filled_length (kept_of t) (row_lines_of t) out.row_table k now.row_table so.row_table (omega (arith, rows)));
       }
 
   -- one state more, which is kept: its lines are written where they go
-  pub upto_more : (k : ℕ) (now : Outputs) → k < (tables_of t).states → kept_of t k ≡ true → Rooms → Upto k now → Upto (k + 1) (with_lines t k now)
+  pub upto_more : (k : ℕ) (now : Outputs) → k < (old_tables t).states → kept_of t k ≡ true → Rooms → Upto k now → Upto (k + 1) (with_lines t k now)
   upto_more k now low there room so =
       record {
-        transitions = line_more (kept_of t) (transition_line_of t) out.transitions k (number_of t k * (tables_of t).symbols) now.transitions there (transitions_at k) (omega (arith, transitions_at k, line_room (kept_of t) (transition_line_of t) out.transitions (tables_of t).states k low there room.transitions)) so.transitions;
-        state_table = line_more (kept_of t) (state_line_of t) out.state_table k (4 * number_of t k) now.state_table there (state_at k) (omega (arith, state_at k, line_room (kept_of t) (state_line_of t) out.state_table (tables_of t).states k low there room.state_table)) so.state_table;
-        row_table = line_more (kept_of t) (row_lines_of t) out.row_table k (rows_before_of t k * ((tables_of t).symbols + 1)) now.row_table there (rows_at k) (omega (arith, rows_at k, line_room (kept_of t) (row_lines_of t) out.row_table (tables_of t).states k low there room.row_table)) so.row_table;
+        transitions = line_more (kept_of t) (transition_line_of t) out.transitions k (number_of t k * (old_tables t).symbols) now.transitions there (transitions_at k) (omega (arith, transitions_at k, line_room (kept_of t) (transition_line_of t) out.transitions (old_tables t).states k low there room.transitions)) so.transitions;
+        state_table = line_more (kept_of t) (state_line_of t) out.state_table k (4 * number_of t k) now.state_table there (state_at k) (omega (arith, state_at k, line_room (kept_of t) (state_line_of t) out.state_table (old_tables t).states k low there room.state_table)) so.state_table;
+        row_table = line_more (kept_of t) (row_lines_of t) out.row_table k (rows_before_of t k * ((old_tables t).symbols + 1)) now.row_table there (rows_at k) (omega (arith, rows_at k, line_room (kept_of t) (row_lines_of t) out.row_table (old_tables t).states k low there room.row_table)) so.row_table;
       }
 
   -- one state more, which is not kept

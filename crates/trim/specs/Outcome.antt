@@ -21,11 +21,18 @@ outputs t s r = record { transitions = t; state_table = s; row_table = r }
 
 -- each table has room in its output
 abbrev pub fits : Tables → Outputs → Bool
-fits T out = nat_le (length T.transitions) (length out.transitions) && (nat_le (length T.state_table) (length out.state_table) && nat_le (length T.row_table) (length out.row_table))
+fits T out =
+    nat_le (length T.transitions) (length out.transitions)
+    && (nat_le (length T.state_table) (length out.state_table)
+    && nat_le (length T.row_table) (length out.row_table))
 
 -- each table at its output's front, and what the output held past it
 abbrev pub written : Tables → Outputs → Outputs
-written T out = outputs (overwritten out.transitions 0 T.transitions) (overwritten out.state_table 0 T.state_table) (overwritten out.row_table 0 T.row_table)
+written T out =
+    outputs
+    (overwritten out.transitions 0 T.transitions)
+    (overwritten out.state_table 0 T.state_table)
+    (overwritten out.row_table 0 T.row_table)
 
 module _ (T : Tables) (domains : List (ℕ → Bool)) (permitted : ℕ → Bool) where
   -- the tables have no fault, the test passes just the kept states, and the start is one of them
@@ -65,4 +72,7 @@ module _ (T : Tables) (domains : List (ℕ → Bool)) (permitted : ℕ → Bool)
 -- trimming has one answer, and leaves one thing in each output
 unfoldable pub OneTrimming : Type 0
 OneTrimming =
-    (T : Tables) (domains : List (ℕ → Bool)) (permitted : ℕ → Bool) (out : Outputs) (r s : Result (ℕ × ℕ) Refusal) (one two : Outputs) → Outcome T domains permitted out r one → Outcome T domains permitted out s two → (r ≡ s) × (one ≡ two)
+    (T : Tables) (domains : List (ℕ → Bool)) (permitted : ℕ → Bool) (out : Outputs)
+    (r s : Result (ℕ × ℕ) Refusal) (one two : Outputs)
+    → Outcome T domains permitted out r one → Outcome T domains permitted out s two
+    → (r ≡ s) × (one ≡ two)

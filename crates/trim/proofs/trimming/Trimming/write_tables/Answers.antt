@@ -2,7 +2,7 @@
 use Rattle.std.proofs.Common.{◌+◌, ◌<◌, sym, ap, ◌∙◌, subst, arith}
 use Rattle.trim.specs.Lent.{held, loans}
 use Rattle.trim.specs.Outcome.{Outputs}
-use Rattle.trim.specs.Trimming.{tables_of}
+use Rattle.trim.specs.Trimming.{old_tables}
 use Rattle.trim.proofs.Written.{Upto, rooms, lines_fit, upto_more, upto_same}
 use Rattle.trim.proofs.trimming.Trimming.write_tables.Goals as goal
 use Rattle.trim.proofs.trimming.Trimming.write_tables.Goals.{then-keeps, else-keeps}
@@ -21,7 +21,7 @@ loop-state-preserved g c =
     let so = c.loop-state.invariant in
     elim c.if-keeps.branch [
       | then-keeps w ↦
-          let low : k < (tables_of t).states = omega (arith, c.loop-state-test.true, c.states-state-end.ensures) in (
+          let low : k < (old_tables t).states = omega (arith, c.loop-state-test.true, c.states-state-end.ensures) in (
             ap loans w.outputs-is ∙ w.write_lines.ensures.lent ∙ so.0,
             subst (λ (o : Outputs). Upto t out (k + 1) o) (sym (ap held w.outputs-is ∙ w.write_lines.ensures.after)) (upto_more t out k (held c.loop-state.outputs) low (sym w.if-keeps.ensures) (rooms t out c.requires) so.1),
           )
