@@ -85,7 +85,8 @@ impl AskedOfTwo for Step {
     }
 }
 
-/// The areas that the cases so far named, each the last of its name, and the claims that they were given, by place.
+/// The areas that the cases so far named, each the last of its name, and the claims that they were
+/// given, by place.
 pub struct Areas {
     areas: BTreeMap<String, Area>,
     places: [Held; PLACES],

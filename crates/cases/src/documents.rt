@@ -1,5 +1,6 @@
-//! Cases on documents: `document AREA NUMBER SERIAL FIRST SECOND PAIRS LEVELS LENGTH`, with an output that is filled beforehand, so that each
-//! byte that was written is seen. Whatever is written is checked against both schemas.
+//! Cases on documents: `document AREA NUMBER SERIAL FIRST SECOND PAIRS LEVELS LENGTH`, with an
+//! output that is filled beforehand, so that each byte that was written is seen. Whatever is
+//! written is checked against both schemas.
 use crate::reply::Reply;
 use crate::trees::AskedOfTwo;
 use crate::trims::{FILLING, is_as_found};
@@ -10,7 +11,8 @@ use notation::memory::{CHECK_LEVEL, DOCUMENT_LEVEL, SEARCH_PAIR, filled};
 use notation::trouble::Trouble;
 use notation::words::Words;
 
-/// The document of the comparison whose apart claim has these numbers, what is lent for it, and levels to check it with.
+/// The document of the comparison whose apart claim has these numbers, what is lent for it, and
+/// levels to check it with.
 #[derive(Drop)]
 pub struct Document {
     claim: Numbers,

@@ -1,4 +1,5 @@
-//! Cases on domains: `make RANGES`, `has KIND DOMAIN VALUE`, `least KIND DOMAIN` and `gap KIND FIRST SECOND`.
+//! Cases on domains: `make RANGES`, `has KIND DOMAIN VALUE`, `least KIND DOMAIN` and `gap KIND
+//! FIRST SECOND`.
 use crate::answer::Answer;
 use api::{Coverage, Domain, Joint, Keywords};
 use notation::domains::FromWords;

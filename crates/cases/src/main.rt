@@ -1,4 +1,5 @@
-//! The test program: answers each case on its input by the public calls, a line each, for a comparison with what was computed apart from it.
+//! The test program: answers each case on its input by the public calls, a line each, for a
+//! comparison with what was computed apart from it.
 #![tactic(auto)]
 
 use crate::answer::Answer;
@@ -42,8 +43,8 @@ fn called<'a>(
     }
 }
 
-/// What a case comes to. Its first word says what is asked, the others of what. It may name a schema, an area
-/// or a claim for the cases after it.
+/// What a case comes to. Its first word says what is asked, the others of what. It may name a
+/// schema, an area or a claim for the cases after it.
 fn answered<'a>(
     heap: Global,
     schemas: &mut Schemas,
@@ -66,7 +67,8 @@ fn answered<'a>(
     }
 }
 
-/// Prints a line for each line of the input: the case with what it comes to, and a comment as it stands.
+/// Prints a line for each line of the input: the case with what it comes to, and a comment as it
+/// stands.
 fn answer_all(rt: &HostRuntime, areas: &mut Areas) -> anyhow::Result<()> {
     let mut schemas = Schemas::new(rt.alloc());
     for line in BufReader::new(rt.alloc(), rt.stdin())?.lines(rt.alloc()) {

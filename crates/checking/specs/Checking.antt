@@ -15,7 +15,8 @@ abbrev pub unless : {X : Type 0} → Option Refusal → Result X Refusal → Res
 unless (Some e) r = Err e
 unless None r = r
 
--- the tree that was read is accepted by state 0, or not; or the fault of the bytes, which outweighs a no
+-- the tree that was read is accepted by state 0, or not; or the fault of the bytes, which outweighs
+-- a no
 abbrev pub verdict : Automaton → Got Tree → Result Bool Refusal
 verdict A (got t rest) = Ok (accepts A 0 t)
 verdict A (stop e) = Err e
@@ -25,8 +26,8 @@ abbrev pub checked : Tables → List (ℕ → Bool) → List ℕ → ℕ → Res
 checked T domains bytes levels =
     unless (table_fault T) (verdict (automaton T domains) (read_all T.symbols levels bytes))
 
--- over sound tables, the answer is that of a tree exactly where the bytes are its encoding, over the
--- schema's symbols and with a level for each of its levels
+-- over sound tables, the answer is that of a tree exactly where the bytes are its encoding, over
+-- the schema's symbols and with a level for each of its levels
 pub record ChecksTrees : Type 0 where
   pub answered :
       (T : Tables) (domains : List (ℕ → Bool)) (bytes : List ℕ) (levels : ℕ) (b : Bool)

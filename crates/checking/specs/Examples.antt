@@ -6,7 +6,8 @@ use Rattle.refusal.specs.declared.fault.Refusal.{Refusal}
 use Rattle.schema.specs.Examples.{no_child, any_of_first, astray, just_zero, zero_and_zero}
 use Rattle.checking.specs.Checking.{checked}
 
--- the bytes, with so many levels, against the schema whose one state has the value 0 and may have no child
+-- the bytes, with so many levels, against the schema whose one state has the value 0 and may have
+-- no child
 abbrev pub asked : List ℕ → ℕ → Result Bool Refusal
 asked bytes levels = checked no_child just_zero bytes levels
 

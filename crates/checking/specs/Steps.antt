@@ -1,5 +1,5 @@
--- What an item makes of the answer so far: the state that must accept the node that comes next, none
--- once something speaks against the tree. Assumes nothing.
+-- What an item makes of the answer so far: the state that must accept the node that comes next,
+-- none once something speaks against the tree. Assumes nothing.
 use Rattle.std.specs.Prelude.{◌≡◌, ℕ, ◌<◌, ◌≤◌, Bool, false, Some, None, Ok, Err, Option, Result}
 use Rattle.std.specs.Bool.{then_some}
 use Rattle.refusal.specs.declared.fault.Fault.TheVariants as fault
@@ -19,8 +19,8 @@ abbrev pub stays : Option ℕ → (ℕ → Bool) → Option ℕ
 stays (Some q) test = then_some (test q) q
 stays None test = None
 
--- the node on top, of state q, goes on at the next row, and the next state must accept the child; where
--- either is lacking the answer is no, and the reader stays as it is
+-- the node on top, of state q, goes on at the next row, and the next state must accept the child;
+-- where either is lacking the answer is no, and the reader stays as it is
 abbrev pub both_known :
     Option ℕ → Option ℕ → ℕ → Progress Cursor → Option ℕ → Progress Cursor → Type 0
 both_known (Some r) (Some p) q before answer after =

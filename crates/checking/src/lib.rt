@@ -16,8 +16,9 @@ use schema::tested::Tested;
 pub mod cursor;
 mod walk;
 
-/// Whether the bytes are the encoding of a tree that the schema accepts, or the refusal of the tables
-/// or of the bytes. One level is wanted for each level of the tree; the levels hold anything afterwards.
+/// Whether the bytes are the encoding of a tree that the schema accepts, or the refusal of the
+/// tables or of the bytes. One level is wanted for each level of the tree; the levels hold anything
+/// afterwards.
 #[tactic(auto, using(crate::proofs::Laws::check_laws))]
 pub fn check<D: Domain>(
     schema: &Schema<D>,

@@ -1,6 +1,6 @@
-//! The walk over a tree's items, with the schema's automaton alongside. Its answer so far is the state
-//! by which the node that comes next must be accepted, and none once something speaks against the tree:
-//! then only the bytes are still read, since their faults outweigh a no.
+//! The walk over a tree's items, with the schema's automaton alongside. Its answer so far is the
+//! state by which the node that comes next must be accepted, and none once something speaks against
+//! the tree: then only the bytes are still read, since their faults outweigh a no.
 ghost use Rattle.std.specs.Prelude.{◌≡◌, length};
 ghost use Rattle.codec.specs.Piles.{topmost};
 ghost use Rattle.codec.specs.Reading.{read_all};
@@ -50,7 +50,8 @@ fn known<D>(schema: &Tested<D>, symbol: u32, place: usize) -> Result<u8, Refusal
     }
 }
 
-/// A child's symbol: the node on top goes on at the next row, and the child must be accepted by the next state.
+/// A child's symbol: the node on top goes on at the next row, and the child must be accepted by the
+/// next state.
 fn name<D: Domain>(
     schema: &Tested<D>,
     answer: Option<u8>,
@@ -68,7 +69,8 @@ fn name<D: Domain>(
     Some(state)
 }
 
-/// One tree of the schema, read to its end and with nothing after it: accepted or not, or the fault of its bytes.
+/// One tree of the schema, read to its end and with nothing after it: accepted or not, or the fault
+/// of its bytes.
 pub(crate) fn walk<D: Domain>(
     schema: &Tested<D>,
     tree: &[u8],

@@ -14,7 +14,8 @@ pub record FirstLacking (maker engine : ℕ → Bool) (names : ℕ → Member) (
   pub missing : engine value ≡ false
   pub before : (v : ℕ) → v < value → maker v ≡ true → engine v ≡ true
 
--- the answer names the first value that is lacking, or is none where the engine has all that the maker has
+-- the answer names the first value that is lacking, or is none where the engine has all that the
+-- maker has
 abbrev pub Lacking : (ℕ → Bool) → (ℕ → Bool) → (ℕ → Member) → Option Member → Type 0
 Lacking maker engine names (Some m) = FirstLacking maker engine names m
 Lacking maker engine names None = (v : ℕ) → v < 2 ^ 32 → maker v ≡ true → engine v ≡ true

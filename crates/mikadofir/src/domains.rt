@@ -1,4 +1,5 @@
-//! What an engine lacks of what a maker uses: `letters`, `keywords` or a `book` with both, the maker's domain before the engine's.
+//! What an engine lacks of what a maker uses: `letters`, `keywords` or a `book` with both, the
+//! maker's domain before the engine's.
 ghost use Rattle.std.specs.Prelude.{◌≡◌, ℕ};
 ghost use Rattle.mikadofir.specs.declared.domains.Member.{Member};
 ghost use Rattle.mikadofir.specs.declared.domains.Member.TheVariants.{Keyword, Letter};

@@ -48,7 +48,8 @@ fn found<'a, T: Task>(
     })
 }
 
-/// Does the job in a file. Prints the file's name and then a line for each of its lines; one that is refused or unreadable does not stop it.
+/// Does the job in a file. Prints the file's name and then a line for each of its lines; one that
+/// is refused or unreadable does not stop it.
 pub fn run<T: Task>(rt: &HostRuntime, task: &mut T, file: &str) -> io::Result<()> {
     let job = fs::read_to_string(rt, file)?;
     println!(rt; "{file}")?;

@@ -50,7 +50,8 @@ struct Writings {
     document: Answer<Document>,
 }
 
-/// What the calls that ended a comparison came to: conclude, what is written where it was apart, and giving up where a claim was left.
+/// What the calls that ended a comparison came to: conclude, what is written where it was apart,
+/// and giving up where a claim was left.
 #[derive(Drop)]
 struct Ending {
     claim: Numbers,
@@ -167,7 +168,8 @@ impl Lent {
     }
 }
 
-/// Begins a comparison, ousts it with another after a few pairs, and ends both. Where the other can't begin, the first is given up.
+/// Begins a comparison, ousts it with another after a few pairs, and ends both. Where the other
+/// can't begin, the first is given up.
 fn compare_twice(
     area: &mut Area,
     first: Sides,

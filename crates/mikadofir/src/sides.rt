@@ -10,7 +10,8 @@ use notation::trouble::Trouble;
 use std::alloc::Global;
 use std::fmt;
 
-/// What the calls are lent to work in: row pairs, and levels for writing a document and for checking one.
+/// What the calls are lent to work in: row pairs, and levels for writing a document and for
+/// checking one.
 #[derive(Drop)]
 pub struct Scratch {
     row_pairs: Vec<RowPair>,
@@ -71,7 +72,8 @@ impl Sides<'_> {
         Answer(answer.map(|(examined, mark)| Stepped { examined, mark }))
     }
 
-    /// Has the document of the comparison whose apart claim has these numbers written to an output, and checks it against both schemas.
+    /// Has the document of the comparison whose apart claim has these numbers written to an output,
+    /// and checks it against both schemas.
     pub fn document(
         self,
         area: &Area,

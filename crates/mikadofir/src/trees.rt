@@ -1,4 +1,5 @@
-//! Whether trees keep to a book's schema: `schema NAME TABLES`, in force until the next, and `tree NAME BYTES`.
+//! Whether trees keep to a book's schema: `schema NAME TABLES`, in force until the next, and `tree
+//! NAME BYTES`.
 use crate::domains::Book;
 use crate::job::Task;
 use notation::answers::Truth;

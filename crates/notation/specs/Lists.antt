@@ -13,7 +13,8 @@ dash = codes "-"
 abbrev pub part_count : List ℕ → ℕ
 part_count text = count_by (λ b. b == 44) text + 1
 
--- a list is wanted: `-` says an empty one, and any other word one of as many items as it has parts, or it is unreadable
+-- a list is wanted: `-` says an empty one, and any other word one of as many items as it has parts,
+-- or it is unreadable
 abbrev pub ListOf : {A : Type 0} → Word → Result (Vec A Global) Trouble → Type 0
 ListOf (Some w) r =
     (w.now ≡ dash → IfOk r (λ v. v.items ≡ []))

@@ -24,7 +24,8 @@ impl fmt::Display for ClaimNumbers {
     }
 }
 
-/// What a comparison came to, and how many pairs it examined: `included, pairs 3` or `apart, content, pairs 1`.
+/// What a comparison came to, and how many pairs it examined: `included, pairs 3` or `apart,
+/// content, pairs 1`.
 #[derive(Clone, Copy, Debug, PartialEq, Eq)]
 pub struct Finding {
     pub verdict: Verdict,

@@ -1,5 +1,5 @@
-//! Domains as text: keywords as the set of their values, `0,3,7`; a coverage as a list of ranges, `65-90,8364`, a lone number being a range of
-//! one; a joint domain as the words of its two.
+//! Domains as text: keywords as the set of their values, `0,3,7`; a coverage as a list of ranges,
+//! `65-90,8364`, a lone number being a range of one; a joint domain as the words of its two.
 ghost use Rattle.std.specs.Prelude.{◌≡◌, IfErr};
 ghost use Rattle.api.specs.declared.Refusal.{Refusal};
 ghost use Rattle.notation.specs.declared.trouble.Trouble.TheVariants.{Refused};
@@ -34,7 +34,8 @@ impl Part for Range {
     }
 }
 
-/// The coverage of the ranges. A list that makes none is refused as such, and is not called unreadable.
+/// The coverage of the ranges. A list that makes none is refused as such, and is not called
+/// unreadable.
 fn coverage_of<'a>(list: &[Range]) -> Result<Coverage, Trouble<'a>>
     ensures { IfErr result (λ e. (x : Refusal) × (e ≡ Refused x)) }
 {

@@ -1,5 +1,6 @@
-//! The text forms of the programs, words split at blanks: domains, schemas, bytes and sets of symbols as they are read, answers as they are
-//! printed, and the memory that the programs lend to calls.
+//! The text forms of the programs, words split at blanks: domains, schemas, bytes and sets of
+//! symbols as they are read, answers as they are printed, and the memory that the programs lend to
+//! calls.
 #![tactic(auto)]
 
 pub mod answers;

@@ -1,4 +1,5 @@
-//! Lists as text, parts joined by commas and `-` for none, and the commonest of them: bytes, `0,1,255`.
+//! Lists as text, parts joined by commas and `-` for none, and the commonest of them: bytes,
+//! `0,1,255`.
 ghost use Rattle.std.specs.Prelude.{◌^◌, Some};
 ghost use Rattle.std.specs.Iterator.{IsFinite};
 ghost use Rattle.std.specs.Option.{SomeIff};

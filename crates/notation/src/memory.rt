@@ -1,4 +1,5 @@
-//! What calls are lent, by how much of it there is to be: what scratch is filled with, and the three outputs of a trimming.
+//! What calls are lent, by how much of it there is to be: what scratch is filled with, and the
+//! three outputs of a trimming.
 ghost use Rattle.std.specs.Prelude.{◌≡◌, replicate, IfOk, vec_len};
 
 use crate::trouble::Trouble;
@@ -70,7 +71,8 @@ impl Outputs {
         })
     }
 
-    /// Trims a schema to the permitted symbols, bit i for symbol i, and gives the counts of the trimmed one.
+    /// Trims a schema to the permitted symbols, bit i for symbol i, and gives the counts of the
+    /// trimmed one.
     pub fn trim<D: Domain>(
         &mut self,
         schema: &Schema<D>,
@@ -86,7 +88,8 @@ impl Outputs {
         Ok(Counts { states, rows })
     }
 
-    /// Leaves of each output no more than the table at its front, by the counts of the trimmed schema.
+    /// Leaves of each output no more than the table at its front, by the counts of the trimmed
+    /// schema.
     pub fn shorten(&mut self, symbols: usize, counts: Counts) {
         let Counts { states, rows } = counts;
         self.transitions.truncate(states.saturating_mul(symbols));

@@ -1,4 +1,5 @@
-//! Schemas as text: `SYMBOLS STATES ROWS TRANSITIONS STATES ROWS DOMAINS`, three counts, three tables, and the domains behind their count.
+//! Schemas as text: `SYMBOLS STATES ROWS TRANSITIONS STATES ROWS DOMAINS`, three counts, three
+//! tables, and the domains behind their count.
 ghost use Rattle.std.specs.Prelude.{◌≡◌};
 
 use crate::domains::FromWords;

@@ -1,4 +1,5 @@
-//! Sets of small numbers as text, `0,3,7` and `-` for none: symbols and keywords as they are read, states as they are printed.
+//! Sets of small numbers as text, `0,3,7` and `-` for none: symbols and keywords as they are read,
+//! states as they are printed.
 ghost use Rattle.std.specs.Prelude.{◌^◌, ◌<◌, Some};
 ghost use Rattle.std.specs.Option.{SomeIff};
 ghost use Rattle.notation.specs.Words.{Takes, IsNumberBelow, number_in};
@@ -16,7 +17,8 @@ fn bit(member: u32) -> Option<u64>
     1u64.checked_shl(member)
 }
 
-/// The set of the number alone that a text says, or none where it says no number that a bit stands for.
+/// The set of the number alone that a text says, or none where it says no number that a bit stands
+/// for.
 fn member(text: &str) -> Option<u64>
     ensures { SomeIff result (IsNumberBelow u64.BITS text.now) (2 ^ number_in text.now) }
 {

@@ -52,7 +52,8 @@ impl<'a> Words<'a> {
     }
 }
 
-/// The number that a text of digits says, or none where it is no such text or the number is too large.
+/// The number that a text of digits says, or none where it is no such text or the number is too
+/// large.
 pub fn digits(text: &str) -> Option<u32>
     ensures { SomeIff result (IsNumberBelow (2 ^ 32) text.now) (number_in text.now) }
 {

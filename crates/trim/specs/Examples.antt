@@ -6,8 +6,8 @@ use Rattle.schema.specs.Tables.{Tables}
 use Rattle.trim.specs.Outcome.{NothingLeft}
 use Rattle.trim.specs.Trimmed.{trimmed}
 
--- a state with any number of children, under symbol 0 at state 1 and under symbol 1 at state 2; those
--- two have no child and share a row
+-- a state with any number of children, under symbol 0 at state 1 and under symbol 1 at state 2;
+-- those two have no child and share a row
 abbrev pub two_leaves : Tables
 two_leaves = record {
   symbols = 2;

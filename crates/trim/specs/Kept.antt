@@ -12,7 +12,8 @@ abbrev pub LedTo : Automaton → (ℕ → Bool) → ℕ → ℕ → ℕ → Type
 LedTo A set p a s = (set a ≡ true) × (A.next p a ≡ Some s)
 
 module _ (A : Automaton) (permitted : ℕ → Bool) where
-  -- state 0 is live over the permitted symbols, and live symbols among them lead from it to the state
+  -- state 0 is live over the permitted symbols, and live symbols among them lead from it to the
+  -- state
   abbrev pub Kept : ℕ → Type 0
   Kept q = Live (permit permitted A) 0 × ((w : List ℕ) × LivePath (permit permitted A) 0 w q)
 

@@ -11,8 +11,8 @@ use Rattle.trim.specs.Outcome.{OneTrimming}
 use Rattle.trim.specs.Trimmed.{number, trimmed}
 
 -- over the same domains: the result passes the test of the tables, it accepts exactly the old trees
--- over permitted symbols, the states kept are exactly those bound to some node of some such tree, and
--- so is every state of the result
+-- over permitted symbols, the states kept are exactly those bound to some node of some such tree,
+-- and so is every state of the result
 pub record Trims (T : Tables) (domains : List (ℕ → Bool)) (permitted kept : ℕ → Bool) : Type 0 where
   pub sound : table_fault (trimmed T permitted kept) ≡ None
   pub trees :
@@ -25,8 +25,8 @@ pub record Trims (T : Tables) (domains : List (ℕ → Bool)) (permitted kept : 
       → Used (automaton (trimmed T permitted kept) domains) (λ _. true) q
 
 pub record TrimmingLaw : Type 0 where
-  -- working as if the other symbols had no next state accepts exactly the trees over permitted symbols;
-  -- so where that accepts nothing, no accepted tree is over permitted symbols
+  -- working as if the other symbols had no next state accepts exactly the trees over permitted
+  -- symbols; so where that accepts nothing, no accepted tree is over permitted symbols
   pub reading :
       (A : Automaton) (permitted : ℕ → Bool) (q : ℕ) (t : Tree)
       → accepts (permit permitted A) q t ≡ (accepts A q t && over permitted t)

@@ -28,7 +28,8 @@ module _ {D : Type 0} (t : Trimming D) where
   abbrev pub rows_before_of : ℕ → ℕ
   rows_before_of = rows_before old_tables permitted_of kept_of
 
-  -- whether the transition of a state under a symbol stays, and what becomes of it and of a row entry
+  -- whether the transition of a state under a symbol stays, and what becomes of it and of a row
+  -- entry
   abbrev pub stays_of : ℕ → ℕ → Bool
   stays_of = stays old_tables permitted_of kept_of
 

@@ -29,7 +29,8 @@ fn state_after<D: Domain>(tested: &Tested<D>, state: u8, symbols: u64, symbol: u
 
 /// The states of a set, and those that follow a state under the symbols of another set.
 fn states_after<D: Domain>(tested: &Tested<D>, state: u8, symbols: u64, before: u64) -> u64
-    ensures { AfterEdge (LedTo (meaning D.Domain.holds tested.now) (bit symbols)) state before result }
+    ensures { AfterEdge (LedTo (meaning D.Domain.holds tested.now) (bit symbols))
+        state before result }
 {
     gather_onto(before, tested.symbols() as u8, |symbol| {
         state_after(tested, state, symbols, symbol)
@@ -38,7 +39,8 @@ fn states_after<D: Domain>(tested: &Tested<D>, state: u8, symbols: u64, before: 
 
 /// The states that live symbols among the permitted ones lead to from the start, which is live.
 pub(crate) fn kept_states<D: Domain>(tested: &Tested<D>, live: u64, permitted: u64) -> u64
-    ensures { LiveMask (meaning_over permitted D.Domain.holds tested.now) (states_of tested.now) live →
+    ensures { LiveMask (meaning_over permitted D.Domain.holds tested.now)
+        (states_of tested.now) live →
         bit live START ≡ true →
         KeptMask (meaning D.Domain.holds tested.now) (bit permitted) result }
 {

@@ -17,9 +17,9 @@ mod kept;
 mod tables;
 mod trimming;
 
-/// Writes the schema over the permitted symbols, bit i for symbol i, at the fronts of the three outputs,
-/// and gives its state count and row count; or the refusal of the tables, `nothing` or `room`, and then
-/// the outputs are as they were.
+/// Writes the schema over the permitted symbols, bit i for symbol i, at the fronts of the three
+/// outputs, and gives its state count and row count; or the refusal of the tables, `nothing` or
+/// `room`, and then the outputs are as they were.
 #[tactic(auto, using(crate::proofs::Law::trim_laws))]
 pub fn trim<D: Domain>(
     schema: &Schema<D>,

@@ -89,7 +89,8 @@ impl<D> Trimming<'_, '_, D> {
             && rows <= outputs.rows.len()
     }
 
-    /// Writes the trimmed tables at the fronts of the outputs, and gives their state count and row count.
+    /// Writes the trimmed tables at the fronts of the outputs, and gives their state count and row
+    /// count.
     pub(crate) fn write_tables(&self, outputs: &mut Outputs) -> (usize, usize)
         requires { fits (new_tables self.now) (held outputs.old) ≡ true }
         ensures states { result.0 ≡ (new_tables self.now).states }

@@ -12,7 +12,8 @@ use schema::faults::NONE;
 use schema::tables::STATE_BYTES;
 use schema::tested::Tested;
 
-/// A tested schema with what is kept of it: the permitted symbols and the kept states, one a bit each.
+/// A tested schema with what is kept of it: the permitted symbols and the kept states, one a bit
+/// each.
 #[derive(Drop)]
 pub(crate) struct Trimming<'a, 'b, D> {
     tested: &'a Tested<'b, D>,
@@ -134,8 +135,8 @@ impl<D> Trimming<'_, '_, D> {
         self.tested.measured.row_byte(state, row, symbol)
     }
 
-    /// A state's four bytes: its domain number and row count as they were, and where its rows begin,
-    /// low byte first.
+    /// A state's four bytes: its domain number and row count as they were, and where its rows
+    /// begin, low byte first.
     pub(crate) fn state_line(&self, state: u8, first: usize) -> [u8; STATE_BYTES]
         requires { first < 2 ^ 16 }
         ensures { result ≡ state_bytes (old_tables self.now) state first }
