@@ -11,7 +11,7 @@ use Rattle.codec.specs.declared.item.Level.{Level}
 use Rattle.codec.specs.Items.{Midway, read_two, Opens, Names, Closes, NodeFault, SymbolFault, Progress, midway, kept, Keeps}
 use Rattle.codec.specs.Piles.{topmost, Replaced}
 use Rattle.codec.proofs.Slots.{topmost_of, over_top}
-use Rattle.codec.specs.Numbers.{Got, got, stop, read_number, refused}
+use Rattle.codec.specs.Numbers.{Got, got, stop, read_number, stop_at}
 use Rattle.codec.specs.Reading.{then, read_symbol, read_children, read_tree}
 use Rattle.codec.specs.Trees.{Tree, node, Children, child, word}
 use Rattle.schema.specs.Automata.{Automaton, passes, present, row_runs, has_next, accepts, accepts_all}
@@ -106,13 +106,13 @@ module _ (A : Automaton) (end s : ℕ) where
     pub no_symbol : (e : Refusal) → read_number end bs ≡ stop e → finish ok (f ∷ fs) l bs ≡ Err e
     no_symbol e reads =
         unrolled
-        ∙ ap (λ (g : Got ℕ). on_got (then (then g (λ a rest. cond (ltb a s) (got a rest) (refused fault.Symbol (end - length bs)))) onward) (λ cs rest. finish (ok && rest_accepted q r cs) fs (suc l) rest)) reads
+        ∙ ap (λ (g : Got ℕ). on_got (then (then g (λ a rest. cond (ltb a s) (got a rest) (stop_at fault.Symbol (end - length bs)))) onward) (λ cs rest. finish (ok && rest_accepted q r cs) fs (suc l) rest)) reads
 
     module _ (a : ℕ) (rest : List ℕ) (reads : read_number end bs ≡ got a rest) where
-      read_it : (g : Got ℕ) → cond (ltb a s) (got a rest) (refused fault.Symbol (end - length bs)) ≡ g → finish ok (f ∷ fs) l bs ≡ on_got (then g onward) (λ cs rest. finish (ok && rest_accepted q r cs) fs (suc l) rest)
+      read_it : (g : Got ℕ) → cond (ltb a s) (got a rest) (stop_at fault.Symbol (end - length bs)) ≡ g → finish ok (f ∷ fs) l bs ≡ on_got (then g onward) (λ cs rest. finish (ok && rest_accepted q r cs) fs (suc l) rest)
       read_it g is =
           unrolled
-          ∙ ap (λ (g : Got ℕ). on_got (then (then g (λ a rest. cond (ltb a s) (got a rest) (refused fault.Symbol (end - length bs)))) onward) (λ cs rest. finish (ok && rest_accepted q r cs) fs (suc l) rest)) reads
+          ∙ ap (λ (g : Got ℕ). on_got (then (then g (λ a rest. cond (ltb a s) (got a rest) (stop_at fault.Symbol (end - length bs)))) onward) (λ cs rest. finish (ok && rest_accepted q r cs) fs (suc l) rest)) reads
           ∙ ap (λ (g : Got ℕ). on_got (then g onward) (λ cs rest. finish (ok && rest_accepted q r cs) fs (suc l) rest)) is
 
       pub strange_symbol : s ≤ a → finish ok (f ∷ fs) l bs ≡ Err (record { fault = fault.Symbol; place = end - length bs })

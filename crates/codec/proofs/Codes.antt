@@ -8,7 +8,7 @@ use Rattle.std.proofs.lemmas.Bool.Decides.{nat_tests}
 use Rattle.refusal.specs.declared.fault.Fault.TheVariants as fault
 use Rattle.refusal.specs.declared.fault.Refusal.{Refusal}
 use Rattle.codec.specs.Encoding.{tree_bytes, children_bytes, Proper, ProperAll, Encodes, ReadsEncodings}
-use Rattle.codec.specs.Numbers.{Got, got, stop, above, refused, groups_of, number_bytes, read_groups, read_number}
+use Rattle.codec.specs.Numbers.{Got, got, stop, above, stop_at, groups_of, number_bytes, read_groups, read_number}
 use Rattle.codec.specs.Reading.{ReadingExamples, then, read_symbol, read_children, read_tree}
 use Rattle.codec.specs.Trees.{Tree, node, Children, none, child, many, height, heights}
 
@@ -64,7 +64,7 @@ module _ (at end : ℕ) where
     positive : some ≡ true → 0 < n
 
   -- the last group
-  last_only : (k : ℕ) (some : Bool) (b n : ℕ) (bs rest : List ℕ) → b < 128 → cond (some && eqb b 0) (refused fault.Number at) (got b bs) ≡ got n rest → Spelled (suc k) some n (b ∷ bs) rest
+  last_only : (k : ℕ) (some : Bool) (b n : ℕ) (bs rest : List ℕ) → b < 128 → cond (some && eqb b 0) (stop_at fault.Number at) (got b bs) ≡ got n rest → Spelled (suc k) some n (b ∷ bs) rest
   last_only k some b n bs rest low h =
       ⊎_elim
       (λ zero. absurd (not_stop (sym (cond-true (some && eqb b 0) _ _ zero) ∙ h)))
@@ -149,7 +149,7 @@ module _ (end s : ℕ) where
 
   -- the test of a symbol that was read from the bytes
   abbrev tested : List ℕ → ℕ → List ℕ → Got ℕ
-  tested bs a rest = cond (ltb a s) (got a rest) (refused fault.Symbol (end - length bs))
+  tested bs a rest = cond (ltb a s) (got a rest) (stop_at fault.Symbol (end - length bs))
 
   symbol_back : (a : ℕ) (rest : List ℕ) → s ≤ 2 ^ 32 → a < s → read_symbol end s (number_bytes a ++ rest) ≡ got a rest
   symbol_back a rest few inside =

@@ -6,7 +6,7 @@ use Rattle.std.proofs.lemmas.Bool.Decides.{nat_tests}
 use Rattle.std.specs.List.{slice_get}
 use Rattle.refusal.specs.declared.fault.Fault.TheVariants as fault
 use Rattle.codec.proofs.Entries.{drop_none, drop_some}
-use Rattle.codec.specs.Numbers.{Got, got, stop, above, refused, read_groups, read_number, wrong_at}
+use Rattle.codec.specs.Numbers.{Got, got, stop, above, stop_at, read_groups, read_number, is_wrong_group}
 
 -- what the groups from an index on give, above the value of those before them
 
@@ -39,7 +39,7 @@ module _ (at end : ℕ) where
   abbrev pub from : ℕ → List ℕ → Got ℕ
   from group bs = read_groups at end (4 - group) (ltb 0 group) bs
 
-  pub group_none : (group : ℕ) → group ≤ 4 → from group [] ≡ refused fault.Short end
+  pub group_none : (group : ℕ) → group ≤ 4 → from group [] ≡ stop_at fault.Short end
   group_none zero few = refl
   group_none (suc zero) few = refl
   group_none (suc (suc zero)) few = refl
@@ -47,7 +47,7 @@ module _ (at end : ℕ) where
   group_none (suc (suc (suc (suc zero)))) few = refl
   group_none (suc (suc (suc (suc (suc g))))) few = absurd (omega arith)
 
-  pub group_wrong : (group b : ℕ) (bs : List ℕ) → group ≤ 4 → wrong_at group b ≡ true → from group (b ∷ bs) ≡ refused fault.Number at
+  pub group_wrong : (group b : ℕ) (bs : List ℕ) → group ≤ 4 → is_wrong_group group b ≡ true → from group (b ∷ bs) ≡ stop_at fault.Number at
   group_wrong zero b bs few wrong = grind (arith, nat_tests)
   group_wrong (suc zero) b bs few wrong = grind (arith, nat_tests)
   group_wrong (suc (suc zero)) b bs few wrong = grind (arith, nat_tests)
@@ -55,7 +55,7 @@ module _ (at end : ℕ) where
   group_wrong (suc (suc (suc (suc zero)))) b bs few wrong = grind (arith, nat_tests)
   group_wrong (suc (suc (suc (suc (suc g))))) b bs few wrong = absurd (omega arith)
 
-  pub group_last : (group b : ℕ) (bs : List ℕ) → group ≤ 4 → wrong_at group b ≡ false → b < 128 → from group (b ∷ bs) ≡ got b bs
+  pub group_last : (group b : ℕ) (bs : List ℕ) → group ≤ 4 → is_wrong_group group b ≡ false → b < 128 → from group (b ∷ bs) ≡ got b bs
   group_last zero b bs few right low = grind (arith, nat_tests)
   group_last (suc zero) b bs few right low = grind (arith, nat_tests)
   group_last (suc (suc zero)) b bs few right low = grind (arith, nat_tests)
@@ -92,7 +92,7 @@ module _ (input : List ℕ) (place : ℕ) where
   no_group = record { few = omega arith; small = omega arith; reached = omega arith; reads = at_place (drop place input) refl ∙ lift_none _ }
 
   module _ (value at group : ℕ) (so : Partial input place value at group) where
-    pub ends_short : slice_get input at ≡ None → read_number (length input) (drop place input) ≡ refused fault.Short (length input)
+    pub ends_short : slice_get input at ≡ None → read_number (length input) (drop place input) ≡ stop_at fault.Short (length input)
     ends_short past =
         so.reads ∙ ap (λ (bs : List ℕ). lift value (2 ^ (7 * group)) (from place (length input) group bs)) (drop_none input at past)
         ∙ ap (lift value (2 ^ (7 * group))) (group_none place (length input) group so.few)
@@ -102,10 +102,10 @@ module _ (input : List ℕ) (place : ℕ) where
       begins : read_number (length input) (drop place input) ≡ lift value (2 ^ (7 * group)) (from place (length input) group (b ∷ drop (at + 1) input))
       begins = so.reads ∙ ap (λ (bs : List ℕ). lift value (2 ^ (7 * group)) (from place (length input) group bs)) (drop_some input at b here)
 
-      pub wrong_group : wrong_at group b ≡ true → read_number (length input) (drop place input) ≡ refused fault.Number place
+      pub wrong_group : is_wrong_group group b ≡ true → read_number (length input) (drop place input) ≡ stop_at fault.Number place
       wrong_group wrong = begins ∙ ap (lift value (2 ^ (7 * group))) (group_wrong place (length input) group b (drop (at + 1) input) so.few wrong)
 
-      module _ (right : wrong_at group b ≡ false) (byte : b < 256) where
+      module _ (right : is_wrong_group group b ≡ false) (byte : b < 256) where
         fifth : 3 < group → b % 128 ≤ 15
         fifth h = grind (arith, nat_tests)
 

@@ -24,19 +24,19 @@ above low (got high rest) = got (low + 128 * high) rest
 above low (stop e) = stop e
 
 -- reading stops at a fault with its place
-abbrev pub refused : {X : Type 0} → fault.the_data → ℕ → Got X
-refused f p = stop (record { fault = f; place = p })
+abbrev pub stop_at : {X : Type 0} → fault.the_data → ℕ → Got X
+stop_at f p = stop (record { fault = f; place = p })
 
 -- groups read one by one: k more may follow the next one, and some came before it. `at` is the place of the number's first byte, and
 -- `end` the input's length. A fifth byte above 15, or a last byte 0 after others, is no number.
 abbrev pub read_groups : (at end k : ℕ) → Bool → List ℕ → Got ℕ
-read_groups at end k some [] = refused fault.Short end
-read_groups at end zero some (b ∷ bs) = cond (b == 0 || nat_lt 15 b) (refused fault.Number at) (got b bs)
-read_groups at end (suc k) some (b ∷ bs) = cond (nat_lt b 128) (cond (some && b == 0) (refused fault.Number at) (got b bs)) (above (b - 128) (read_groups at end k true bs))
+read_groups at end k some [] = stop_at fault.Short end
+read_groups at end zero some (b ∷ bs) = cond (b == 0 || nat_lt 15 b) (stop_at fault.Number at) (got b bs)
+read_groups at end (suc k) some (b ∷ bs) = cond (nat_lt b 128) (cond (some && b == 0) (stop_at fault.Number at) (got b bs)) (above (b - 128) (read_groups at end k true bs))
 
 -- a byte can't be the group at an index: a fifth above 15, or a 0 after others
-abbrev pub wrong_at : ℕ → ℕ → Bool
-wrong_at group b = (nat_lt 0 group && b == 0) || (nat_lt 3 group && nat_lt 15 b)
+abbrev pub is_wrong_group : ℕ → ℕ → Bool
+is_wrong_group group b = (nat_lt 0 group && b == 0) || (nat_lt 3 group && nat_lt 15 b)
 
 -- the number at the front of what is left of an input of the given length
 abbrev pub read_number : ℕ → List ℕ → Got ℕ
@@ -70,9 +70,9 @@ pub record NumberExamples : Type 0 where
   pub low_first : number_bytes 300 ≡ 172 ∷ 2 ∷ []
   pub five_groups : number_bytes 2147483738 ≡ 218 ∷ 128 ∷ 128 ∷ 128 ∷ 8 ∷ []
   pub largest : number_bytes 4294967295 ≡ 255 ∷ 255 ∷ 255 ∷ 255 ∷ 15 ∷ []
-  pub absent : read_number 1 [] ≡ refused fault.Short 1
-  pub cut_off : read_number 2 (128 ∷ []) ≡ refused fault.Short 2
+  pub absent : read_number 1 [] ≡ stop_at fault.Short 1
+  pub cut_off : read_number 2 (128 ∷ []) ≡ stop_at fault.Short 2
   pub followed : read_number 4 (172 ∷ 2 ∷ 7 ∷ []) ≡ got 300 (7 ∷ [])
-  pub too_large : read_number 7 (255 ∷ 255 ∷ 255 ∷ 255 ∷ 16 ∷ []) ≡ refused fault.Number 2
-  pub no_sixth : read_number 5 (128 ∷ 128 ∷ 128 ∷ 128 ∷ 128 ∷ []) ≡ refused fault.Number 0
-  pub last_zero : read_number 3 (128 ∷ 0 ∷ []) ≡ refused fault.Number 1
+  pub too_large : read_number 7 (255 ∷ 255 ∷ 255 ∷ 255 ∷ 16 ∷ []) ≡ stop_at fault.Number 2
+  pub no_sixth : read_number 5 (128 ∷ 128 ∷ 128 ∷ 128 ∷ 128 ∷ []) ≡ stop_at fault.Number 0
+  pub last_zero : read_number 3 (128 ∷ 0 ∷ []) ≡ stop_at fault.Number 1

@@ -1,6 +1,6 @@
 //! Numbers of 32 bits as bytes: groups of seven bits, the lowest first, the top bit set on all but the last.
 ghost use Rattle.std.specs.Prelude.{◌≡◌, length};
-ghost use Rattle.codec.specs.Numbers.{NumberExamples, number_bytes, wrong_at, Reads, Writes};
+ghost use Rattle.codec.specs.Numbers.{NumberExamples, number_bytes, is_wrong_group, Reads, Writes};
 
 use refusal::fault::{Fault, Refusal};
 
@@ -30,7 +30,7 @@ pub fn read_number(input: &[u8], place: usize) -> Result<(u32, usize), Refusal>
 
 /// Whether a byte can't be the group at an index: a fifth above 15, or a 0 after others.
 fn is_wrong(group: usize, byte: u8) -> bool
-    ensures { result ≡ wrong_at group byte }
+    ensures { result ≡ is_wrong_group group byte }
 {
     (group > 0 && byte == 0) || (group >= LAST_GROUP && byte > LARGEST_FIFTH)
 }

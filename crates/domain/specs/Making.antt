@@ -59,7 +59,7 @@ OneAnswer = (rs : List Range) (r s : Result Coverage Refusal) → Makes rs r →
 
 -- the limits in numbers: the ranges of a coverage, the last code point, and where the right half of
 -- a joint begins
-pub record Limits : Type 0 where
+pub record DomainLimits : Type 0 where
   pub ranges : RANGES ≡ 8
   pub last : LAST_CODE_POINT ≡ 1114111
   pub middle : MIDDLE ≡ 2147483648
@@ -67,4 +67,4 @@ pub record Limits : Type 0 where
 -- what holds of making coverages
 pub record MakingLaws : Type 0 where
   pub one : OneAnswer
-  pub limits : Limits
+  pub limits : DomainLimits

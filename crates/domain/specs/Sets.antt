@@ -6,14 +6,14 @@ abbrev pub Empty : (ℕ → Bool) → Type 0
 Empty test = (v : ℕ) → v < 2 ^ 32 → test v ≡ false
 
 -- m is a value that passes the test, and no smaller one does
-pub record First (test : ℕ → Bool) (m : ℕ) : Type 0 where
+pub record SmallestMember (test : ℕ → Bool) (m : ℕ) : Type 0 where
   pub value : m < 2 ^ 32
   pub passes : test m ≡ true
   pub before : (v : ℕ) → v < m → test v ≡ false
 
 -- the smallest value that passes the test, or none where none does
 abbrev pub Smallest : (ℕ → Bool) → Option ℕ → Type 0
-Smallest test (Some m) = First test m
+Smallest test (Some m) = SmallestMember test m
 Smallest test None = Empty test
 
 -- a value is in the first set alone

@@ -12,7 +12,7 @@ use Rattle.bits.proofs.Members.{bit_zero}
 use Rattle.schema.proofs.Searches.{some_found, some_tells}
 use Rattle.schema.specs.Automata.{Automaton, passes, row_runs}
 use Rattle.schema.specs.Below.{some_below}
-use Rattle.schema.specs.Rows.{onward, leads, AfterEdge, RowEdge, RunsOverFrom, LeadsOver, ReachedFrom}
+use Rattle.schema.specs.Rows.{onward, leads, AfterEdge, RowEdge, RunsOverFrom, LeadsOver, RowsReachedFrom}
 
 -- what the numbers below n lead to, where they lead along the edges from p
 pub edges_of_led : {Leads : ℕ → Option ℕ → Type 0} (Edge : ℕ → ℕ → ℕ → Type 0) (p n before after : ℕ) (step : ℕ → Option ℕ) → ((a j : ℕ) → Edge p a j → (a < n) × (step a ≡ Some j)) → ((a j : ℕ) → step a ≡ Some j → Edge p a j) → ((a : ℕ) (o : Option ℕ) → a < n → Leads a o → o ≡ step a) → LedOnto Leads n before after
@@ -109,7 +109,7 @@ module _ (A : Automaton) (q : ℕ) (set : ℕ → Bool) where
   ends_runs r i so ends = (so.0, so.1, subst (λ (u : List ℕ). row_runs A q r u ≡ true) (append-nil so.0) (runs_on so.0 [] r i so.2 ends))
 
   -- a sequence over the set ends at a row that was reached
-  pub ends_reached : (from rows : ℕ) → ReachedFrom A q set from rows → (w : List ℕ) (r : ℕ) → bit rows r ≡ true → AllByRecursion (λ a. set a ≡ true) w → row_runs A q r w ≡ true → (i : ℕ) × (bit rows i ≡ true) × (A.ends q i ≡ true)
+  pub ends_reached : (from rows : ℕ) → RowsReachedFrom A q set from rows → (w : List ℕ) (r : ℕ) → bit rows r ≡ true → AllByRecursion (λ a. set a ≡ true) w → row_runs A q r w ≡ true → (i : ℕ) × (bit rows i ≡ true) × (A.ends q i ≡ true)
   ends_reached from rows all [] r here over runs = (r, here, runs)
   ends_reached from rows all (a ∷ w) r here over runs =
       let next = passed (A.step q r a) (λ s. row_runs A q s w) runs in
@@ -126,7 +126,7 @@ module _ (A : Automaton) (q : ℕ) (set : ℕ → Bool) where
 
   -- whether a row that was reached may end decides whether some sequence over the set runs from
   -- there
-  pub ends_decide : (count : ℕ) → ((i a j : ℕ) → i < count → A.step q i a ≡ Some j → j < count) → (from rows : ℕ) → from < count → ReachedFrom A q set from rows → Decides (some_below count (λ i. bit rows i && A.ends q i)) (RunsOverFrom A q set from)
+  pub ends_decide : (count : ℕ) → ((i a j : ℕ) → i < count → A.step q i a ≡ Some j → j < count) → (from rows : ℕ) → from < count → RowsReachedFrom A q set from rows → Decides (some_below count (λ i. bit rows i && A.ends q i)) (RunsOverFrom A q set from)
   ends_decide count stays from rows inside all = (
     λ found.
         let at = some_tells (λ i. bit rows i && A.ends q i) count found in

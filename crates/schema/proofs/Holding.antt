@@ -8,12 +8,12 @@ use Rattle.bits.specs.Bits.{bit}
 use Rattle.schema.specs.Automata.{Automaton, passes, present, row_runs, has_next}
 use Rattle.schema.specs.Below.{some_below}
 use Rattle.schema.specs.Live.{Live, LiveMask, LiveSequence, LiveSymbol}
-use Rattle.schema.specs.Rows.{Held, ReachedFrom, RunsOverFrom}
+use Rattle.schema.specs.Rows.{Held, RowsReachedFrom, RunsOverFrom}
 use Rattle.schema.proofs.Bound.{passed}
 use Rattle.schema.proofs.Gathering.{runs_on, leads_inside}
 use Rattle.schema.proofs.Searches.{some_found, some_tells}
 
-module _ (A : Automaton) (q : ℕ) (set : ℕ → Bool) (count reached ending : ℕ) (some : 0 < count) (stays : (i a j : ℕ) → i < count → A.step q i a ≡ Some j → j < count) (rows : ReachedFrom A q set 0 reached) (ends : (i : ℕ) → Decides (bit ending i) ((i < count) × RunsOverFrom A q set i)) where
+module _ (A : Automaton) (q : ℕ) (set : ℕ → Bool) (count reached ending : ℕ) (some : 0 < count) (stays : (i a j : ℕ) → i < count → A.step q i a ≡ Some j → j < count) (rows : RowsReachedFrom A q set 0 reached) (ends : (i : ℕ) → Decides (bit ending i) ((i < count) × RunsOverFrom A q set i)) where
   -- the symbol leads from the row, which was reached, to one that goes on to an end
   abbrev pub on_the_way : ℕ → ℕ → Bool
   on_the_way a i = bit reached i && passes (A.step q i a) (bit ending)

@@ -10,7 +10,7 @@ use Rattle.bits.specs.Bits.{bit}
 use Rattle.bits.proofs.Digits.{lowest_member}
 use Rattle.schema.specs.Automata.{Automaton, passes, present, row_runs, has_next, allowed, accepts, accepts_all}
 use Rattle.bits.specs.Below.{count_below}
-use Rattle.schema.specs.Live.{Found, New, Rank, Ranked}
+use Rattle.schema.specs.Live.{FoundOver, NewlyFound, Rank, Ranked}
 use Rattle.schema.specs.Rows.{RunsOverFrom}
 use Rattle.schema.proofs.Bound.{passed}
 use Rattle.bits.proofs.Counting.{count_le, count_full, count_grows}
@@ -57,7 +57,7 @@ module _ (A : Automaton) (n : ℕ) (few : n ≤ 64) (inside : (q a s : ℕ) → 
       }
 
   -- what is found over states with trees lower than m has one lower than m + 1
-  found_below : (m : ℕ) (states : ℕ → Bool) → ((s : ℕ) → states s ≡ true → Below A m s) → (q : ℕ) → Found A states q → Below A (m + 1) q
+  found_below : (m : ℕ) (states : ℕ → Bool) → ((s : ℕ) → states s ≡ true → Below A m s) → (q : ℕ) → FoundOver A states q → Below A (m + 1) q
   found_below m states lower q f =
       let w = f.1.0 in
       let b = grow m states lower q w f.1.1 in (
@@ -67,7 +67,7 @@ module _ (A : Automaton) (n : ℕ) (few : n ≤ 64) (inside : (q a s : ℕ) → 
       )
 
   -- a tree whose children are lower than m is found over the states that accept one lower than m
-  found_of : (m : ℕ) (states : ℕ → Bool) → ((s : ℕ) → s < n → Below A m s → states s ≡ true) → (q : ℕ) → q < n → Below A (m + 1) q → Found A states q
+  found_of : (m : ℕ) (states : ℕ → Bool) → ((s : ℕ) → s < n → Below A m s → states s ≡ true) → (q : ℕ) → q < n → Below A (m + 1) q → FoundOver A states q
   found_of m states holds q low (node v cs, h, lower) =
       let value = and_parts (A.has q v) _ h in
       let content = and_parts (allowed A q (word cs)) _ value.1 in
@@ -91,7 +91,7 @@ module _ (A : Automaton) (n : ℕ) (few : n ≤ 64) (inside : (q a s : ℕ) → 
         many = omega arith;
       }
 
-  module _ (live : ℕ) (ranks : List (Option ℕ)) (rounds found : ℕ) (so : AfterRounds A n live ranks rounds) (round : (q : ℕ) → Decides (bit found q) ((q < n) × New A (bit live) q)) (fits : found < 2 ^ 64) where
+  module _ (live : ℕ) (ranks : List (Option ℕ)) (rounds found : ℕ) (so : AfterRounds A n live ranks rounds) (round : (q : ℕ) → Decides (bit found q) ((q < n) × NewlyFound A (bit live) q)) (fits : found < 2 ^ 64) where
     lower : (s : ℕ) → bit live s ≡ true → Below A rounds s
     lower s there = ((so.exact s).0 there).1
 
@@ -180,7 +180,7 @@ module _ (A : Automaton) (n : ℕ) (few : n ≤ 64) (inside : (q a s : ℕ) → 
           let value = and_parts (A.has q v) _ h in
           let content = and_parts (allowed A q (word cs)) _ value.1 in
           let runs = and_parts (row_runs A q 0 (word cs)) _ content.0 in
-          let f : Found A (bit live) q = ((v, value.0), (word cs, all_below end q cs low content.1, runs.0)) in
+          let f : FoundOver A (bit live) q = ((v, value.0), (word cs, all_below end q cs low content.1, runs.0)) in
           ⊎_elim (λ there. there) (λ out. absurd (both_ways (bit found q) (ap (λ (m : ℕ). bit m q) end ∙ bit_zero q) ((round q).1 (low, (out, f))))) (cases_Bool (bit live q))
 
       all_below : found ≡ 0 → (q : ℕ) (cs : Children) → q < n → accepts_all A q cs ≡ true → AllByRecursion (λ a. passes (A.next q a) (bit live) ≡ true) (word cs)

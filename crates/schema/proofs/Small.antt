@@ -4,7 +4,7 @@ use Rattle.std.proofs.lemmas.Bool.{and_parts, false≢true}
 use Rattle.std.proofs.Math.Nat.{le-max_left}
 use Rattle.codec.specs.Trees.{Tree, node, none, child, height, heights}
 use Rattle.schema.specs.Automata.{present, row_runs, has_next, allowed, accepts, accepts_all}
-use Rattle.schema.specs.Examples.{book, zero_and_zero, alone, above_one, SmallSchemas}
+use Rattle.schema.specs.Examples.{book, zero_and_zero, single_node, node_with_child, SmallSchemas}
 use Rattle.schema.specs.Tables.{automaton}
 use Rattle.schema.proofs.Dead.{leads_back_dead}
 
@@ -46,9 +46,9 @@ small_schemas =
         row_of_first = refl;
       };
       ranks = record {
-        of_book = ((above_one, refl, refl), book_high);
-        of_page = ((alone, refl, refl), λ t h. omega arith);
-        symbol = ([], [], (refl, ((1, refl, (alone, refl)), tt)));
+        of_book = ((node_with_child, refl, refl), book_high);
+        of_page = ((single_node, refl, refl), λ t h. omega arith);
+        symbol = ([], [], (refl, ((1, refl, (single_node, refl)), tt)));
         no_symbol = λ l.
             let A = automaton book zero_and_zero in
             let w = l.0 ++ 0 ∷ l.1 in

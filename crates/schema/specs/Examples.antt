@@ -3,7 +3,7 @@ use Rattle.std.specs.Prelude.{◌≡◌, ℕ, Bool, true, false, List, [], ◌�
 use Rattle.refusal.specs.declared.fault.Fault.TheVariants as fault
 use Rattle.codec.specs.Trees.{Tree, node, none, child}
 use Rattle.schema.specs.Automata.{Automaton, accepts}
-use Rattle.schema.specs.Faults.{table_fault, either_fault, Limits}
+use Rattle.schema.specs.Faults.{table_fault, either_fault, SchemaLimits}
 use Rattle.schema.specs.Live.{Live, LiveSymbol, Rank}
 use Rattle.schema.specs.Tables.{Tables, automaton}
 
@@ -79,7 +79,7 @@ too_few_rows = record {
   row_table = 0 ∷ 1 ∷ 1 ∷ 1 ∷ [];
 }
 
--- the value 0 alone, and that twice
+-- the value 0 single_node, and that twice
 abbrev pub just_zero : List (ℕ → Bool)
 just_zero = (λ v. nat_eq v 0) ∷ []
 
@@ -87,11 +87,11 @@ abbrev pub zero_and_zero : List (ℕ → Bool)
 zero_and_zero = (λ v. nat_eq v 0) ∷ (λ v. nat_eq v 0) ∷ []
 
 -- a node of value 0 without children, and one with such a child under symbol 0
-abbrev pub alone : Tree
-alone = node 0 none
+abbrev pub single_node : Tree
+single_node = node 0 none
 
-abbrev pub above_one : Tree
-above_one = node 0 (child 0 alone none)
+abbrev pub node_with_child : Tree
+node_with_child = node 0 (child 0 single_node none)
 
 -- a state that may have no empty sequence and leads only to itself is not live; so the example's
 -- state is not
@@ -101,14 +101,14 @@ pub record LeadsBackDead : Type 0 where
 
 -- which of the two trees each of the schemas accepts
 pub record SmallAccepts : Type 0 where
-  pub no_child_alone : accepts (automaton no_child just_zero) 0 alone ≡ true
-  pub no_child_above : accepts (automaton no_child just_zero) 0 above_one ≡ false
-  pub first_alone : accepts (automaton any_of_first just_zero) 0 alone ≡ true
-  pub first_above : accepts (automaton any_of_first just_zero) 0 above_one ≡ true
-  pub two_alone : accepts (automaton one_of_two just_zero) 0 alone ≡ false
-  pub two_above : accepts (automaton one_of_two just_zero) 0 above_one ≡ false
-  pub book_alone : accepts (automaton book zero_and_zero) 0 alone ≡ false
-  pub book_above : accepts (automaton book zero_and_zero) 0 above_one ≡ true
+  pub no_child_alone : accepts (automaton no_child just_zero) 0 single_node ≡ true
+  pub no_child_above : accepts (automaton no_child just_zero) 0 node_with_child ≡ false
+  pub first_alone : accepts (automaton any_of_first just_zero) 0 single_node ≡ true
+  pub first_above : accepts (automaton any_of_first just_zero) 0 node_with_child ≡ true
+  pub two_alone : accepts (automaton one_of_two just_zero) 0 single_node ≡ false
+  pub two_above : accepts (automaton one_of_two just_zero) 0 node_with_child ≡ false
+  pub book_alone : accepts (automaton book zero_and_zero) 0 single_node ≡ false
+  pub book_above : accepts (automaton book zero_and_zero) 0 node_with_child ≡ true
 
 -- which tables pass the test, and at which place the others are refused; of two faults the lower
 -- number, of one number the first schema's
@@ -122,7 +122,7 @@ pub record SmallFaults : Type 0 where
   pub state_of_second : either_fault too_few_rows astray ≡ Some (record { fault = fault.State; place = 1 })
   pub row_of_first : either_fault too_few_rows book ≡ Some (record { fault = fault.Row; place = 1 })
 
--- the ranks of the book and its page, and that the page's symbol is live at the book alone
+-- the ranks of the book and its page, and that the page's symbol is live at the book single_node
 pub record BookRanks : Type 0 where
   pub of_book : Rank (automaton book zero_and_zero) 0 1
   pub of_page : Rank (automaton book zero_and_zero) 1 0
@@ -135,4 +135,4 @@ pub record SmallSchemas : Type 0 where
   pub faults : SmallFaults
   pub ranks : BookRanks
   pub dead : LeadsBackDead
-  pub limits : Limits
+  pub limits : SchemaLimits

@@ -97,7 +97,7 @@ either_fault T U =
     ∷ either_at_lowest T U Row ∷ either_at_lowest T U Domain ∷ [])
 
 -- the limits in numbers
-pub record Limits : Type 0 where
+pub record SchemaLimits : Type 0 where
   pub symbols : SYMBOLS ≡ 32
   pub states : STATES ≡ 64
   pub rows : ROWS ≡ 1024

@@ -25,12 +25,12 @@ module _ (A : Automaton) where
   LivePath p (a ∷ w) q = LiveSymbol p a × ((s : ℕ) × (A.next p a ≡ Some s) × LivePath s w q)
 
   -- the state has a value and a sequence whose symbols all lead into the set of states
-  abbrev pub Found : (ℕ → Bool) → ℕ → Type 0
-  Found states q = ((v : ℕ) × (A.has q v ≡ true)) × RunsOver A q (λ a. passes (A.next q a) states)
+  abbrev pub FoundOver : (ℕ → Bool) → ℕ → Type 0
+  FoundOver states q = ((v : ℕ) × (A.has q v ≡ true)) × RunsOver A q (λ a. passes (A.next q a) states)
 
   -- not in the set yet, and found over it
-  abbrev pub New : (ℕ → Bool) → ℕ → Type 0
-  New states q = (states q ≡ false) × Found states q
+  abbrev pub NewlyFound : (ℕ → Bool) → ℕ → Type 0
+  NewlyFound states q = (states q ≡ false) × FoundOver states q
 
   -- bit q of the mask is set exactly for the live states below n
   abbrev pub LiveMask : ℕ → ℕ → Type 0

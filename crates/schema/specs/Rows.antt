@@ -48,11 +48,11 @@ module _ (A : Automaton) (q : ℕ) where
     After = AfterEdge RowEdge
 
     -- exactly the rows that sequences over the set lead to from row r
-    pub record ReachedFrom (r rows : ℕ) : Type 0 where
+    pub record RowsReachedFrom (r rows : ℕ) : Type 0 where
       pub start : bit rows r ≡ true
       pub closed : (i a j : ℕ) → bit rows i ≡ true → RowEdge i a j → bit rows j ≡ true
       pub only : (i : ℕ) → bit rows i ≡ true → LeadsOver r i
 
     -- exactly the rows that sequences over the set lead to from the first row
-    abbrev pub Reached : ℕ → Type 0
-    Reached = ReachedFrom 0
+    abbrev pub RowsReached : ℕ → Type 0
+    RowsReached = RowsReachedFrom 0

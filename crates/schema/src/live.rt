@@ -3,7 +3,7 @@
 ghost use Rattle.std.specs.Prelude.{◌≡◌, ℕ, ◌<◌, IfOk, if◌then◌else◌, Some, Decides, slice_get};
 ghost use Rattle.bits.specs.Bits.{bit};
 ghost use Rattle.domain.specs.Sets.{Smallest};
-ghost use Rattle.schema.specs.Live.{Found, New, Ranked, LiveMask, RankMask};
+ghost use Rattle.schema.specs.Live.{FoundOver, NewlyFound, Ranked, LiveMask, RankMask};
 ghost use Rattle.schema.specs.Outcome.{LiveAnswer, LiveLaws};
 ghost use Rattle.schema.specs.Meaning.{IsState, meaning, meaning_over, states_of};
 ghost use Rattle.schema.specs.Tables.{tables, sets, automaton_of};
@@ -50,7 +50,7 @@ impl<D: Domain> Tested<'_, D> {
     fn is_found(&self, state: u8, live: u64, permitted: u64) -> bool
         ensures { IsState self.now state →
             Decides result
-            (Found (meaning_over permitted D.Domain.holds self.now) (bit live) state) }
+            (FoundOver (meaning_over permitted D.Domain.holds self.now) (bit live) state) }
     {
         let Some(_) = self.least(state) else {
             return false;
@@ -62,7 +62,7 @@ impl<D: Domain> Tested<'_, D> {
     /// Whether a state is not in the set yet, and is found over it.
     fn is_new(&self, state: u8, live: u64, permitted: u64) -> bool
         ensures { IsState self.now state →
-            Decides result (New (meaning_over permitted D.Domain.holds self.now) (bit live) state) }
+            Decides result (NewlyFound (meaning_over permitted D.Domain.holds self.now) (bit live) state) }
     {
         !has_member(live, state) && self.is_found(state, live, permitted)
     }
@@ -73,7 +73,7 @@ impl<D: Domain> Tested<'_, D> {
             Decides
             (bit result q)
             (IsState self.now q
-            × New (meaning_over permitted D.Domain.holds self.now) (bit live) q) }
+            × NewlyFound (meaning_over permitted D.Domain.holds self.now) (bit live) q) }
     {
         gather(self.states() as u8, |state| {
             self.is_new(state, live, permitted)

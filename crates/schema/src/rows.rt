@@ -3,7 +3,7 @@
 ghost use Rattle.std.specs.Prelude.{◌≡◌, ℕ, ◌<◌, ◌&&◌, if◌then◌else◌, None, Decides};
 ghost use Rattle.bits.specs.Bits.{bit};
 ghost use Rattle.schema.specs.Automata.{passes};
-ghost use Rattle.schema.specs.Rows.{After, Reached, ReachedFrom, RunsOver, RunsOverFrom};
+ghost use Rattle.schema.specs.Rows.{After, RowsReached, RowsReachedFrom, RunsOver, RunsOverFrom};
 ghost use Rattle.schema.specs.Meaning.{IsState, meaning, tables_of};
 ghost use Rattle.schema.specs.Tables.{row_count};
 
@@ -57,10 +57,10 @@ impl<D: Domain> Tested<'_, D> {
     pub fn rows_reached_from(&self, state: u8, from: u8, symbols: u64) -> u64
         ensures any_row { IsState self.now state →
             from < row_count (tables_of self.now) state →
-            ReachedFrom (meaning D.Domain.holds self.now) state (bit symbols) from result }
+            RowsReachedFrom (meaning D.Domain.holds self.now) state (bit symbols) from result }
         ensures first_row { IsState self.now state →
             from ≡ 0 →
-            Reached (meaning D.Domain.holds self.now) state (bit symbols) result }
+            RowsReached (meaning D.Domain.holds self.now) state (bit symbols) result }
     {
         let mut reached = with_member(0, from);
         let mut done = 0;

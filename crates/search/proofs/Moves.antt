@@ -9,7 +9,7 @@ use Rattle.std.proofs.lemmas.Bool.{and_parts, and_from, both_ways}
 use Rattle.std.proofs.lemmas.Option.{none-some, option_and_then_some, same_Some}
 use Rattle.schema.specs.Automata.{Automaton, passes, row_runs}
 use Rattle.search.specs.declared.pairs.RowPair.{RowPair}
-use Rattle.search.specs.Pairs.{next_pair, row_links}
+use Rattle.search.specs.Pairs.{next_row_pair, row_links}
 use Rattle.search.specs.Sequences.{Sought}
 use Rattle.search.specs.Watching.{Watching, watched}
 use Rattle.search.proofs.Breadth.{leads}
@@ -115,7 +115,7 @@ module _ (A : Automaton) (q : ℕ) (set : ℕ → Bool) (W : Watching) where
     pub symbol : f.symbol ≡ a
     pub parent : f.parent ≡ i
 
-  pub pair_moves : (p f : RowPair) (a i : ℕ) → next_pair A q set W p a i ≡ Some f → MovesTo p f a i
+  pub pair_moves : (p f : RowPair) (a i : ℕ) → next_row_pair A q set W p a i ≡ Some f → MovesTo p f a i
   pair_moves p f a i is = by (cond (set a) (A.step q p.row a) None) refl is
     where
       by : (o : Option ℕ) → cond (set a) (A.step q p.row a) None ≡ o → option_map (λ r. record { row = r; watch = W.after p.watch a; symbol = a; parent = i }) o ≡ Some f → MovesTo p f a i
@@ -131,7 +131,7 @@ module _ (A : Automaton) (q : ℕ) (set : ℕ → Bool) (W : Watching) where
           }
       by None e is = absurd (none-some _ is)
 
-  pub pair_stays : (p : RowPair) (a i : ℕ) (m : Place) → next_pair A q set W p a i ≡ None → move (place_of p) a ≡ Some m → ⊥
+  pub pair_stays : (p : RowPair) (a i : ℕ) (m : Place) → next_row_pair A q set W p a i ≡ None → move (place_of p) a ≡ Some m → ⊥
   pair_stays p a i m is to = by (cond (set a) (A.step q p.row a) None) is to
     where
       by : (o : Option ℕ) → option_map {U = RowPair} (λ r. record { row = r; watch = W.after p.watch a; symbol = a; parent = i }) o ≡ None → option_map {U = Place} (λ r. record { row = r; watch = W.after p.watch a }) o ≡ Some m → ⊥

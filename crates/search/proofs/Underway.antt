@@ -16,12 +16,12 @@ use Rattle.schema.proofs.Sound.{sound}
 use Rattle.search.specs.declared.visited.Visited.{Visited}
 use Rattle.search.specs.declared.pairs.RowPair.{RowPair}
 use Rattle.search.specs.declared.search.Question.{Question}
-use Rattle.search.specs.Visits.{is_visited, Added, Known, Visits}
-use Rattle.search.specs.Pairs.{row_links, first_pair, next_pair, goal, Finds}
+use Rattle.search.specs.Visits.{is_visited, NewlyVisited, AlreadyVisited, Visits}
+use Rattle.search.specs.Pairs.{row_links, first_row_pair, next_row_pair, goal, Finds}
 use Rattle.search.specs.Paths.{Met}
 use Rattle.search.specs.Questions.{automaton_asked}
 use Rattle.search.specs.Sequences.{Sought}
-use Rattle.search.specs.Watching.{Watching, StatesBelow}
+use Rattle.search.specs.Watching.{Watching, WatcherStatesBelow}
 use Rattle.search.proofs.Breadth.{leads, Midway, none_left, found_before, tried, done, new_sequence, new_leads, grown, begun}
 use Rattle.search.proofs.Visits.{Noted, nothing_noted, noted_few, room_left, noted_more}
 use Rattle.search.proofs.Moves.{Place, place_of, move, is_goal, first, move_steps, sought_of_goal, goal_of_sought, pair_moves, pair_stays}
@@ -60,7 +60,7 @@ module _ (A : Automaton) (q : ℕ) (set : ℕ → Bool) (W : Watching) (rows sym
   -- entry k is being tried, its symbols below b were; each entry's row is one of the state's
   pub record Underway (l : Visited) (pile : Stack RowPair) (k b : ℕ) : Type 0 where
     pub fence : Fenced A q rows symbols
-    pub below : StatesBelow states W
+    pub below : WatcherStatesBelow states W
     pub narrow : states ≤ 17
     pub midway : Half pile.entries k b
     pub noted : Noted states l pile.entries
@@ -132,11 +132,11 @@ module _ (A : Automaton) (q : ℕ) (set : ℕ → Bool) (W : Watching) (rows sym
         }
 
     -- it leads nowhere
-    pub leads_nowhere : next_pair A q set W p b k ≡ None → Trying l pile k (b + 1) p
+    pub leads_nowhere : next_row_pair A q set W p b k ≡ None → Trying l pile k (b + 1) p
     leads_nowhere none = tried_there (λ n to. absurd (pair_stays A q set W p b k n none to))
 
     -- it leads to a pair
-    module _ {f : RowPair} (is : next_pair A q set W p b k ≡ Some f) (state-fits : p.watch < 256) where
+    module _ {f : RowPair} (is : next_row_pair A q set W p b k ≡ Some f) (state-fits : p.watch < 256) where
       narrow : f.watch < states
       narrow =
           let m = pair_moves A q set W p f b k is in
@@ -147,7 +147,7 @@ module _ (A : Automaton) (q : ℕ) (set : ℕ → Bool) (W : Watching) (rows sym
       low = t.under.fence.stays p.row b f.row (t.under.inside k p t.here) (pair_moves A q set W p f b k is).row
 
       -- which is listed
-      pub to_known : {l' : Visited} {pile' : Stack RowPair} → Known f l pile l' pile' → Trying l' pile' k (b + 1) p
+      pub to_known : {l' : Visited} {pile' : Stack RowPair} → AlreadyVisited f l pile l' pile' → Trying l' pile' k (b + 1) p
       to_known {l'} {pile'} o =
           let e = t.under.noted.seen f.row f.watch o.old in
           let same : place_of e.entry ≡ place_of f = ap (λ (r : ℕ). record { row = r; watch = e.entry.watch }) e.row ∙ ap (λ (s : ℕ). record { row = f.row; watch = s }) e.watch in
@@ -155,7 +155,7 @@ module _ (A : Automaton) (q : ℕ) (set : ℕ → Bool) (W : Watching) (rows sym
           subst (λ x. Trying x pile' k (b + 1) p) (sym o.same_list) (subst (λ x. Trying l x k (b + 1) p) (sym o.same_pile) so)
 
       -- which is new
-      module _ {i : ℕ} {l' : Visited} {pile' : Stack RowPair} (o : Added f l pile i l' pile') where
+      module _ {i : ℕ} {l' : Visited} {pile' : Stack RowPair} (o : NewlyVisited f l pile i l' pile') where
         few : f.row < 16
         few = omega (arith, low, t.under.fence.few)
 
@@ -199,11 +199,11 @@ module _ (A : Automaton) (q : ℕ) (set : ℕ → Bool) (W : Watching) (rows sym
 
   -- before the first turn: nothing is listed, and the pair of the first row and the watcher's start
   -- comes on an empty pile
-  module _ (fence : Fenced A q rows symbols) (below : StatesBelow states W) (narrow : states ≤ 17) (l : Visited) (pile : Stack RowPair) (p : RowPair) (l' : Visited) (pile' : Stack RowPair) (none : (r s : ℕ) → is_visited l r s ≡ false) (empty : pile.entries ≡ []) (room : 272 ≤ length pile.free) (is : p ≡ first_pair W) where
+  module _ (fence : Fenced A q rows symbols) (below : WatcherStatesBelow states W) (narrow : states ≤ 17) (l : Visited) (pile : Stack RowPair) (p : RowPair) (l' : Visited) (pile' : Stack RowPair) (none : (r s : ℕ) → is_visited l r s ≡ false) (empty : pile.entries ≡ []) (room : 272 ≤ length pile.free) (is : p ≡ first_row_pair W) where
     starts_low : p.watch < states
     starts_low = omega (arith, below.start, ap {B = ℕ} (λ (x : RowPair). x.watch) is)
 
-    alone : (i : ℕ) → Added p l pile i l' pile' → pile'.entries ≡ p ∷ []
+    alone : (i : ℕ) → NewlyVisited p l pile i l' pile' → pile'.entries ≡ p ∷ []
     alone i o = o.pushed (omega (arith, room, ap length empty)) ∙ ap (λ es. es ++ p ∷ []) empty
 
     at_first : place_of p ≡ from

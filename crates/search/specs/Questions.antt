@@ -6,13 +6,13 @@ use Rattle.schema.specs.Automata.{Automaton}
 use Rattle.schema.specs.Meaning.{meaning}
 use Rattle.search.specs.declared.pairs.RowPair.{RowPair}
 use Rattle.search.specs.declared.search.Question.{Question}
-use Rattle.search.specs.Pairs.{first_pair, next_pair, goal, Finds}
+use Rattle.search.specs.Pairs.{first_row_pair, next_row_pair, goal, Finds}
 use Rattle.search.specs.Sequences.{Sought, Shortest}
 use Rattle.search.specs.Watching.{Watching}
 
 -- the pair at the bottom, where `watching` says what machine a watcher is
-abbrev pub first_of : {D W : Type 0} → (W → Watching) → Question D W → RowPair
-first_of watching s = first_pair (watching s.watcher.now)
+abbrev pub first_pair_of : {D W : Type 0} → (W → Watching) → Question D W → RowPair
+first_pair_of watching s = first_row_pair (watching s.watcher.now)
 
 -- the automaton of the schema, where `holds` says which values a domain has
 abbrev pub automaton_asked : {D W : Type 0} → (D → ℕ → Bool) → Question D W → Automaton
@@ -20,12 +20,12 @@ automaton_asked holds s = meaning holds s.tested.now
 
 module _ {D W : Type 0} (holds : D → ℕ → Bool) (watching : W → Watching) (s : Question D W) where
   -- the pair that a symbol of the set leads to from a pair, which is entry i
-  abbrev pub next_of : RowPair → ℕ → ℕ → Option RowPair
-  next_of = next_pair (automaton_asked holds s) s.state (bit s.symbols) (watching s.watcher.now)
+  abbrev pub next_pair_of : RowPair → ℕ → ℕ → Option RowPair
+  next_pair_of = next_row_pair (automaton_asked holds s) s.state (bit s.symbols) (watching s.watcher.now)
 
   -- a sequence that leads to the pair is sought
-  abbrev pub goal_of : RowPair → Bool
-  goal_of = goal (automaton_asked holds s) s.state (watching s.watcher.now)
+  abbrev pub is_goal_of : RowPair → Bool
+  is_goal_of = goal (automaton_asked holds s) s.state (watching s.watcher.now)
 
   -- the shortest sequence that is sought, or none where none is
   abbrev pub ShortestOf : Option (List ℕ) → Type 0

@@ -10,7 +10,7 @@ abbrev pub is_visited : Visited → ℕ → ℕ → Bool
 is_visited l r s = bit (slice_index l.masks r) s
 
 -- a pair that was not listed is listed and put on the pile, where a slot is left
-pub record Added (p : RowPair) (l : Visited) (pile : Stack RowPair) (i : ℕ) (l' : Visited) (pile' : Stack RowPair) : Type 0 where
+pub record NewlyVisited (p : RowPair) (l : Visited) (pile : Stack RowPair) (i : ℕ) (l' : Visited) (pile' : Stack RowPair) : Type 0 where
   pub new : is_visited l p.row p.watch ≡ false
   pub place : i ≡ length pile.entries
   pub listed : p.row < 16 → p.watch < 64 → (r s : ℕ) → is_visited l' r s ≡ (is_visited l r s || (p.row == r && p.watch == s))
@@ -18,12 +18,12 @@ pub record Added (p : RowPair) (l : Visited) (pile : Stack RowPair) (i : ℕ) (l
   pub pushed : length pile.entries < slots pile → pile'.entries ≡ pile.entries ++ p ∷ []
 
 -- a pair that was listed changes nothing
-pub record Known (p : RowPair) (l : Visited) (pile : Stack RowPair) (l' : Visited) (pile' : Stack RowPair) : Type 0 where
+pub record AlreadyVisited (p : RowPair) (l : Visited) (pile : Stack RowPair) (l' : Visited) (pile' : Stack RowPair) : Type 0 where
   pub old : is_visited l p.row p.watch ≡ true
   pub same_list : l' ≡ l
   pub same_pile : pile' ≡ pile
 
 -- a pair, with the place where it was put if it was not listed yet
 abbrev pub Visits : RowPair → Visited → Stack RowPair → Option ℕ → Visited → Stack RowPair → Type 0
-Visits p l pile (Some i) l' pile' = Added p l pile i l' pile'
-Visits p l pile None l' pile' = Known p l pile l' pile'
+Visits p l pile (Some i) l' pile' = NewlyVisited p l pile i l' pile'
+Visits p l pile None l' pile' = AlreadyVisited p l pile l' pile'

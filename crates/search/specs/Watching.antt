@@ -12,7 +12,7 @@ pub record Watching : Type 0 where
 
 -- the state before the first symbol and those after a symbol are below n; states and symbols are
 -- bytes
-pub record StatesBelow (n : ℕ) (W : Watching) : Type 0 where
+pub record WatcherStatesBelow (n : ℕ) (W : Watching) : Type 0 where
   pub start : W.start < n
   pub after : (s b : ℕ) → s < 256 → b < 256 → W.after s b < n
 
@@ -29,14 +29,14 @@ wanted W w = W.wants (watched W W.start w)
 abbrev pub anything : Watching
 anything = record { start = 0; after = λ s b. 0; wants = λ s. true }
 
-pub anything_low : StatesBelow 1 anything
+pub anything_low : WatcherStatesBelow 1 anything
 anything_low = record { start = lit< tt; after = λ s b fits fits'. lit< tt }
 
 -- 1 once the symbol came, and 0 before
 abbrev pub holding : ℕ → Watching
 holding a = record { start = 0; after = λ s b. cond (s == 1 || b == a) 1 0; wants = λ s. (s == 1) }
 
-pub holding_low : (a : ℕ) → StatesBelow 2 (holding a)
+pub holding_low : (a : ℕ) → WatcherStatesBelow 2 (holding a)
 holding_low a = record { start = lit< tt; after = λ s b fits fits'. by (s == 1 || b == a) }
   where
     by : (t : Bool) → cond t 1 0 < 2
@@ -62,7 +62,7 @@ refusing A p = record {
   wants = λ s. not (nat_lt s 16) || not (A.ends p s);
 }
 
-pub refusing_low : (A : Automaton) (p : ℕ) → StatesBelow 17 (refusing A p)
+pub refusing_low : (A : Automaton) (p : ℕ) → WatcherStatesBelow 17 (refusing A p)
 refusing_low A p = record { start = lit< tt; after = λ s b fits fits'. by (nat_lt s 16) (A.step p s b) (A.next p b) }
   where
     by : (t : Bool) (row state : Option ℕ) → cond t (row_or_gone row state) 16 < 17

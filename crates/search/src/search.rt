@@ -2,7 +2,7 @@
 ghost use Rattle.std.specs.Prelude.{◌≡◌, ◌+◌, ◌*◌, ◌≤◌, [], length};
 ghost use Rattle.schema.specs.declared.faults.TheConstants.{STATE_ROWS};
 ghost use Rattle.schema.specs.Meaning.{IsState};
-ghost use Rattle.search.specs.Questions.{first_of, next_of, goal_of, Answers, ShortestOf};
+ghost use Rattle.search.specs.Questions.{first_pair_of, next_pair_of, is_goal_of, Answers, ShortestOf};
 ghost use Rattle.search.specs.Sequences.{OneShortest};
 
 use crate::pairs::{ROW_PAIRS, RowPair};
@@ -28,7 +28,7 @@ pub struct Question<'a, 'b, D, W> {
 impl<D: Domain, W: Watcher> Question<'_, '_, D, W> {
     /// The pair of the first row and the watcher's start.
     fn first_pair(&self) -> RowPair
-        ensures { result ≡ first_of W.Watcher.watching self.now }
+        ensures { result ≡ first_pair_of W.Watcher.watching self.now }
     {
         RowPair {
             row: 0,
@@ -40,7 +40,7 @@ impl<D: Domain, W: Watcher> Question<'_, '_, D, W> {
 
     /// The pair that a symbol of the set leads to from a pair, which is the entry `parent`.
     fn next_pair(&self, pair: RowPair, symbol: u8, parent: u16) -> Option<RowPair>
-        ensures { result ≡ next_of D.Domain.holds W.Watcher.watching self.now pair symbol parent }
+        ensures { result ≡ next_pair_of D.Domain.holds W.Watcher.watching self.now pair symbol parent }
     {
         if !has_member(self.symbols, symbol) {
             return None;
@@ -56,7 +56,7 @@ impl<D: Domain, W: Watcher> Question<'_, '_, D, W> {
 
     /// Whether a sequence that leads to the pair is sought.
     fn is_goal(&self, pair: RowPair) -> bool
-        ensures { result ≡ goal_of D.Domain.holds W.Watcher.watching self.now pair }
+        ensures { result ≡ is_goal_of D.Domain.holds W.Watcher.watching self.now pair }
     {
         self.tested.may_end(self.state, pair.row) && self.watcher.wants(pair.watch)
     }

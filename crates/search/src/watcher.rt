@@ -1,6 +1,6 @@
 //! Watchers: each reads a sequence symbol by symbol, and says whether it wants what it has read.
 ghost use Rattle.std.specs.Prelude.{◌≡◌, ℕ, ◌≤◌};
-ghost use Rattle.search.specs.Watching.{Watching, StatesBelow};
+ghost use Rattle.search.specs.Watching.{Watching, WatcherStatesBelow};
 
 use schema::faults::STATE_ROWS;
 
@@ -29,7 +29,7 @@ pub trait Watcher {
         ensures { result ≡ (watching self.now).wants state };
 
     // its states are numbered from 0
-    ghost low: { (w : Self) → StatesBelow states (watching w) };
+    ghost low: { (w : Self) → WatcherStatesBelow states (watching w) };
 
     // they are WATCHER_STATES at most
     ghost few: { states ≤ 17 };

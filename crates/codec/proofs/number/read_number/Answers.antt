@@ -2,7 +2,7 @@
 use Rattle.std.proofs.Common.{◌≡◌, ℕ, ◌+◌, ◌*◌, ◌%◌, ◌^◌, ◌<◌, ◌≤◌, false, List, length, drop, Some, refl, sym, ap, ◌∙◌, subst, slice_index_or, length-drop, arith}
 use Rattle.std.specs.List.{slice_get}
 use Rattle.std.proofs.lemmas.Option.{slice_get_past, slice_get_within}
-use Rattle.codec.specs.Numbers.{got, stop, wrong_at}
+use Rattle.codec.specs.Numbers.{got, stop, is_wrong_group}
 use Rattle.codec.proofs.Entries.{rest_from_get, entry_of_rest}
 use Rattle.codec.proofs.Groups.{Partial, Scaled, no_group, ends_short, wrong_group, scaled_group, last_group, next_group}
 use Rattle.codec.proofs.number.read_number.Goals as goal
@@ -11,7 +11,7 @@ use Rattle.codec.proofs.number.read_number.Goals.{After-from}
 -- a byte that may be the next group
 record Right (input : List ℕ) (at value group b low : ℕ) : Type 0 where
   here : slice_get input at ≡ Some b
-  right : wrong_at group b ≡ false
+  right : is_wrong_group group b ≡ false
   byte : b < 256
   inside : at < length input
   same : low ≡ b % 128

@@ -1,7 +1,7 @@
 -- Rows are done until none is left. Assumes nothing.
 use Rattle.std.proofs.Common.{ℕ, ◌<◌, [], refl, subst, arith}
 use Rattle.bits.specs.Bits.{bit}
-use Rattle.schema.specs.Rows.{RowEdge, LeadsOver, ReachedFrom}
+use Rattle.schema.specs.Rows.{RowEdge, LeadsOver, RowsReachedFrom}
 use Rattle.schema.specs.Tables.{tables, sets, automaton, row_count}
 use Rattle.schema.proofs.Gathering.{partly_start, partly_more, partly_done, leads_on}
 use Rattle.schema.proofs.Sound.{sound}
@@ -37,7 +37,7 @@ returns g c =
     let s = sound T (sets g.D.Domain.holds t.measured.schema) t.sound in
     let q = c.args.state in
     let set = bit c.args.symbols in
-    let all : q < T.states → c.args.from < row_count T q → ReachedFrom A q set c.args.from c.loop-row.reached = λ low inside.
+    let all : q < T.states → c.args.from < row_count T q → RowsReachedFrom A q set c.args.from c.loop-row.reached = λ low inside.
     let so = c.loop-row.invariant low inside in
     record {
       start = so.start;
@@ -45,4 +45,4 @@ returns g c =
           c.loop-row.reached c.loop-row.done so c.in_default.ensures;
       only = so.only;
     } in
-    record { any_row = all; first_row = λ low first. subst (λ (r : ℕ). ReachedFrom A q set r c.loop-row.reached) first (all low (omega (arith, first, (s.rows q low).from))) }
+    record { any_row = all; first_row = λ low first. subst (λ (r : ℕ). RowsReachedFrom A q set r c.loop-row.reached) first (all low (omega (arith, first, (s.rows q low).from))) }
