@@ -12,9 +12,7 @@ pub fn has_member(set: u64, number: u8) -> bool
 
 /// The set with one number more; a number past 63 is left out.
 pub fn with_member(set: u64, number: u8) -> u64
-    ensures adds {
-        (i : ℕ) → bit result i ≡ (bit set i || (nat_lt number 64 && number == i))
-    }
+    ensures adds { (i : ℕ) → bit result i ≡ (bit set i || (nat_lt number 64 && number == i)) }
     ensures grows { bit set number ≡ false → number < 64 → set < result }
 {
     if number < 64 {

@@ -1,4 +1,5 @@
--- The entries and the slots left of a pile, as parts of its list of slots; and the entry on top. Assumes nothing.
+-- The entries and the slots left of a pile, as parts of its list of slots; and the entry on top.
+-- Assumes nothing.
 use Rattle.std.proofs.Common.{◌≡◌, ℕ, ◌+◌, ◌-◌, ◌<◌, ◌≤◌, List, [], ◌∷◌, ◌++◌, length, take, drop, set, Some, None, Option, sym, refl, ap, ◌∙◌, arith, take-append-drop, length-set}
 use Rattle.std.proofs.Math.Seq.{take-set-lt, set-append_seam}
 use Rattle.std.proofs.lemmas.List.{length-append, length-drop, length_push, length-take-le, take-append-le, take_all, take_more, drop-append-le, drop-set-lt, get_or_push}

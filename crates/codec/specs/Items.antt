@@ -1,4 +1,5 @@
--- What a reader hands out: a value with its child count, a symbol, or a node's end. Assumes nothing.
+-- What a reader hands out: a value with its child count, a symbol, or a node's end. Assumes
+-- nothing.
 use Rattle.std.specs.Prelude.{◌≡◌, ℕ, ◌-◌, ◌<◌, ◌≤◌, Bool, true, false, ◌⊎◌, List, [], ◌∷◌, ◌++◌, length, Some, None, Ok, Err, Option, Result}
 use Rattle.refusal.specs.declared.fault.Fault.TheVariants as fault
 use Rattle.refusal.specs.declared.fault.Refusal.{Refusal}
@@ -9,7 +10,8 @@ use Rattle.codec.specs.Numbers.{Got, got, stop, read_number}
 use Rattle.codec.specs.Piles.{Stack, slots, topmost, Replaced}
 use Rattle.codec.specs.Reading.{then}
 
--- a reader on its way: the bytes left, whether a node comes next, and the levels of the nodes it is in, the root's first
+-- a reader on its way: the bytes left, whether a node comes next, and the levels of the nodes it is
+-- in, the root's first
 pub record Midway (S : Type 0) : Type 0 where
   pub left : List ℕ
   pub fresh : Bool
@@ -17,9 +19,11 @@ pub record Midway (S : Type 0) : Type 0 where
 
 -- the number at the front, and the number after it
 abbrev pub read_two : ℕ → List ℕ → Got (ℕ × ℕ)
-read_two end bs = then (read_number end bs) (λ v rest. then (read_number end rest) (λ n rest. got (v, n) rest))
+read_two end bs =
+    then (read_number end bs) (λ v rest. then (read_number end rest) (λ n rest. got (v, n) rest))
 
--- an input of length `end`, a pile of `room` levels, and what to keep beside the children of a node that opens
+-- an input of length `end`, a pile of `room` levels, and what to keep beside the children of a node
+-- that opens
 module _ {S : Type 0} (end room : ℕ) (at : S) where
   -- a node opens: its value and its child count, and a level for it
   pub record Opens (b : Midway S) (v n : ℕ) (bytes : List ℕ) (a : Midway S) : Type 0 where
@@ -62,7 +66,9 @@ module _ {S : Type 0} (end room : ℕ) (at : S) where
   -- no level is left for a node, or a number of it can't be read
   pub record NodeFault (b : Midway S) (e : Refusal) : Type 0 where
     pub due : b.fresh ≡ true
-    pub fault : ((room ≤ length b.levels) × (e ≡ record { fault = fault.Deep; place = end - length b.left })) ⊎ ((length b.levels < room) × (read_two end b.left ≡ stop e))
+    pub fault :
+        ((room ≤ length b.levels) × (e ≡ record { fault = fault.Deep; place = end - length b.left }))
+        ⊎ ((length b.levels < room) × (read_two end b.left ≡ stop e))
 
   -- a symbol can't be read
   pub record SymbolFault (b : Midway S) (e : Refusal) : Type 0 where
@@ -81,7 +87,8 @@ module _ {S : Type 0} (end room : ℕ) (at : S) where
   Hands b (Ok None) a = Over b a
   Hands b (Err e) a = (NodeFault b e ⊎ SymbolFault b e) × (a ≡ b)
 
--- a reader: the bytes read and those left, whether a node comes next, and the pile of the levels of the nodes it is in
+-- a reader: the bytes read and those left, whether a node comes next, and the pile of the levels of
+-- the nodes it is in
 pub record Progress (S : Type 0) : Type 0 where
   pub read : List ℕ
   pub left : List ℕ
@@ -97,7 +104,9 @@ abbrev pub midway : {S : Type 0} → Progress S → Midway S
 midway p = record { left = p.left; fresh = p.fresh; levels = p.levels.entries }
 
 -- one step of a reader; the input stays, and so does the number of levels that there are room for
-pub record Walks {S : Type 0} (at : S) (before : Progress S) (r : Result (Option Item) Refusal) (after : Progress S) : Type 0 where
+pub record Walks
+    {S : Type 0} (at : S) (before : Progress S) (r : Result (Option Item) Refusal)
+    (after : Progress S) : Type 0 where
   pub hands : Hands (length (input before)) (slots before.levels) at (midway before) r (midway after)
   pub same_input : input after ≡ input before
   pub same_room : slots after.levels ≡ slots before.levels

@@ -1,10 +1,12 @@
--- Numbers of 32 bits as bytes: groups of seven bits, the lowest first, the top bit set on all but the last, the shortest way only.
--- Assumes nothing.
+-- Numbers of 32 bits as bytes: groups of seven bits, the lowest first, the top bit set on all but
+-- the last, the shortest way only. Assumes nothing.
 use Rattle.std.specs.Prelude.{◌≡◌, ℕ, zero, suc, ◌+◌, ◌-◌, ◌*◌, ◌/◌, ◌%◌, ◌<◌, ◌≤◌, Bool, true, false, cond, ◌&&◌, ◌||◌, List, [], ◌∷◌, ◌++◌, length, take, drop, Some, None, Ok, Err, Option, Result, ◌==◌, nat_lt}
+use Rattle.codec.specs.declared.number.TheConstants.{LARGEST_FIFTH}
 use Rattle.refusal.specs.declared.fault.Fault.TheVariants as fault
 use Rattle.refusal.specs.declared.fault.Refusal.{Refusal}
 
--- what reading the front of some bytes gives: a value and the bytes after it, or the refusal at which reading stops
+-- what reading the front of some bytes gives: a value and the bytes after it, or the refusal at
+-- which reading stops
 pub data Got (X : Type 0) : Type 0 where
   got : X → List ℕ → Got X
   stop : Refusal → Got X
@@ -31,12 +33,16 @@ stop_at f p = stop (record { fault = f; place = p })
 -- `end` the input's length. A fifth byte above 15, or a last byte 0 after others, is no number.
 abbrev pub read_groups : (at end k : ℕ) → Bool → List ℕ → Got ℕ
 read_groups at end k some [] = stop_at fault.Short end
-read_groups at end zero some (b ∷ bs) = cond (b == 0 || nat_lt 15 b) (stop_at fault.Number at) (got b bs)
-read_groups at end (suc k) some (b ∷ bs) = cond (nat_lt b 128) (cond (some && b == 0) (stop_at fault.Number at) (got b bs)) (above (b - 128) (read_groups at end k true bs))
+read_groups at end zero some (b ∷ bs) =
+    cond (b == 0 || nat_lt LARGEST_FIFTH b) (stop_at fault.Number at) (got b bs)
+read_groups at end (suc k) some (b ∷ bs) =
+    cond (nat_lt b 128)
+    (cond (some && b == 0) (stop_at fault.Number at) (got b bs))
+    (above (b - 128) (read_groups at end k true bs))
 
 -- a byte can't be the group at an index: a fifth above 15, or a 0 after others
 abbrev pub is_wrong_group : ℕ → ℕ → Bool
-is_wrong_group group b = (nat_lt 0 group && b == 0) || (nat_lt 3 group && nat_lt 15 b)
+is_wrong_group group b = (nat_lt 0 group && b == 0) || (nat_lt 3 group && nat_lt LARGEST_FIFTH b)
 
 -- the number at the front of what is left of an input of the given length
 abbrev pub read_number : ℕ → List ℕ → Got ℕ
@@ -44,15 +50,19 @@ read_number end bs = read_groups (end - length bs) end 4 false bs
 
 -- the number at a place of the input, with the place after it, or the refusal
 abbrev pub Reads : List ℕ → ℕ → Result (ℕ × ℕ) Refusal → Type 0
-Reads input p (Ok r) = (read_number (length input) (drop p input) ≡ got r.0 (drop r.1 input)) × (p < r.1) × (r.1 ≤ length input)
+Reads input p (Ok r) =
+    (read_number (length input) (drop p input) ≡ got r.0 (drop r.1 input))
+    × (p < r.1) × (r.1 ≤ length input)
 Reads input p (Err e) = read_number (length input) (drop p input) ≡ stop e
 
 -- an output with bytes written at a place, and nothing else touched
 abbrev pub overwritten : List ℕ → ℕ → List ℕ → List ℕ
 overwritten output p bytes = take p output ++ (bytes ++ drop (p + length bytes) output)
 
--- bytes written at a place of an output, and nothing else touched; none are written where they have no room there
-pub record Written (output : List ℕ) (p : ℕ) (bytes : List ℕ) (next : ℕ) (output' : List ℕ) : Type 0 where
+-- bytes written at a place of an output, and nothing else touched; none are written where they have
+-- no room there
+pub record Written
+    (output : List ℕ) (p : ℕ) (bytes : List ℕ) (next : ℕ) (output' : List ℕ) : Type 0 where
   pub room : p + length bytes ≤ length output
   pub next_place : next ≡ p + length bytes
   pub after : output' ≡ overwritten output p bytes

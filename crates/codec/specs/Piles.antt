@@ -1,4 +1,5 @@
--- Piles: the entries, the last of them on top, and the slots that are left above them. Assumes nothing.
+-- Piles: the entries, the last of them on top, and the slots that are left above them. Assumes
+-- nothing.
 use Rattle.std.specs.Prelude.{◌≡◌, ℕ, ◌+◌, ◌-◌, Bool, cond, List, [], ◌∷◌, ◌++◌, length, take, drop, Option, nat_lt, slice_set}
 use Rattle.std.specs.List.{slice_get}
 
@@ -16,7 +17,8 @@ abbrev pub topmost : {X : Type 0} → List X → Option X
 topmost entries = slice_get entries (length entries - 1)
 
 -- an entry is put on top where a slot is left; no other slot changes
-pub record Pushed {X : Type 0} (before : Stack X) (x : X) (r : Bool) (after : Stack X) : Type 0 where
+pub record Pushed
+    {X : Type 0} (before : Stack X) (x : X) (r : Bool) (after : Stack X) : Type 0 where
   pub room : r ≡ nat_lt 0 (length before.free)
   pub entries : after.entries ≡ cond r (before.entries ++ x ∷ []) before.entries
   pub free : after.free ≡ cond r (drop 1 before.free) before.free

@@ -13,17 +13,24 @@ then (stop e) f = stop e
 module _ (end symbols : ℕ) where
   -- a symbol, which must be the schema's, and the bytes after it
   abbrev pub read_symbol : List ℕ → Got ℕ
-  read_symbol bs = then (read_number end bs) (λ a rest. cond (nat_lt a symbols) (got a rest) (stop_at fault.Symbol (end - length bs)))
+  read_symbol bs =
+      then (read_number end bs)
+      (λ a rest. cond (nat_lt a symbols) (got a rest) (stop_at fault.Symbol (end - length bs)))
 
   -- that many children, each a symbol and a tree, where `tree` reads a tree
   abbrev pub read_children : (List ℕ → Got Tree) → ℕ → List ℕ → Got Children
   read_children tree zero bs = got none bs
-  read_children tree (suc n) bs = then (read_symbol bs) (λ a rest. then (tree rest) (λ t rest. then (read_children tree n rest) (λ cs rest. got (child a t cs) rest)))
+  read_children tree (suc n) bs =
+      then (read_symbol bs) (λ a rest. then (tree rest) (λ t rest.
+      then (read_children tree n rest) (λ cs rest. got (child a t cs) rest)))
 
-  -- a tree of at most that many levels: its value, its child count and its children. No level left is found before its first byte
+  -- a tree of at most that many levels: its value, its child count and its children. No level left
+  -- is found before its first byte
   abbrev pub read_tree : ℕ → List ℕ → Got Tree
   read_tree zero bs = stop_at fault.Deep (end - length bs)
-  read_tree (suc levels) bs = then (read_number end bs) (λ v rest. then (read_number end rest) (λ n rest. then (read_children (read_tree levels) n rest) (λ cs rest. got (node v cs) rest)))
+  read_tree (suc levels) bs =
+      then (read_number end bs) (λ v rest. then (read_number end rest) (λ n rest.
+      then (read_children (read_tree levels) n rest) (λ cs rest. got (node v cs) rest)))
 
   -- one tree and nothing after it
   abbrev pub whole : Got Tree → Got Tree

@@ -1,7 +1,8 @@
 -- Finite trees: a value at each node, and children in order, each under a symbol. Assumes nothing.
 use Rattle.std.specs.Prelude.{ℕ, suc, ◌+◌, max, List, [], ◌∷◌}
 
--- a tree is a node with its value and its children, and children come one after the other, each with its symbol
+-- a tree is a node with its value and its children, and children come one after the other, each
+-- with its symbol
 mutual
   pub data Tree : Type 0 where
     node : ℕ → Children → Tree

@@ -1,4 +1,5 @@
-//! The tree encoding: numbers and trees as bytes, the pile that a walk over a tree keeps its levels in, and the reader of items.
+//! The tree encoding: numbers and trees as bytes, the pile that a walk over a tree keeps its levels
+//! in, and the reader of items.
 #![tactic(auto)]
 
 pub mod item;

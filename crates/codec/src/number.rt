@@ -1,4 +1,5 @@
-//! Numbers of 32 bits as bytes: groups of seven bits, the lowest first, the top bit set on all but the last.
+//! Numbers of 32 bits as bytes: groups of seven bits, the lowest first, the top bit set on all but
+//! the last.
 ghost use Rattle.std.specs.Prelude.{◌≡◌, length};
 ghost use Rattle.codec.specs.Numbers.{NumberExamples, number_bytes, is_wrong_group, Reads, Writes};
 
@@ -50,7 +51,8 @@ pub fn number_length(value: u32) -> usize
     }
 }
 
-/// Writes a number at a place of the output, and gives the place after it; none, and nothing is written, where it has no room there.
+/// Writes a number at a place of the output, and gives the place after it; none, and nothing is
+/// written, where it has no room there.
 pub fn write_number(output: &mut [u8], place: usize, value: u32) -> Option<usize>
     ensures { Writes output.old place (number_bytes value) result output.new }
 {

@@ -9,8 +9,8 @@ use crate::pile::Pile;
 use refusal::fault::{Fault, Refusal};
 use std::marker::Model;
 
-/// A place in the input, whether a node comes next there, and the levels of the nodes that it is in.
-// A mark, and no type for each of the two: one reader is asked for one item after the other, whichever it is.
+/// A place in the input, whether a node comes next there, and the levels of the nodes that it is
+/// in.
 #[derive(Drop)]
 pub struct Reader<'i, 'p, S> {
     input: &'i [u8],
@@ -28,7 +28,8 @@ impl<'i, 'p, S> Model for Reader<'i, 'p, S> {
 }
 
 impl<'i, 'p, S: Copy> Reader<'i, 'p, S> {
-    /// A reader at the input's first byte, where the root comes next. Each node takes a level of the pile while the reader is in it.
+    /// A reader at the input's first byte, where the root comes next. Each node takes a level of
+    /// the pile while the reader is in it.
     pub fn new(input: &'i [u8], levels: Pile<'p, Level<S>>) -> Reader<'i, 'p, S>
         ensures { result ≡ record { read = []; left = input.now; fresh = true; levels = levels.entry } }
     {
@@ -63,7 +64,8 @@ impl<'i, 'p, S: Copy> Reader<'i, 'p, S> {
         }
     }
 
-    /// The next item, or none after the root's end; or the fault that reading stops at. A node that opens takes a level, with `at` in it.
+    /// The next item, or none after the root's end; or the fault that reading stops at. A node that
+    /// opens takes a level, with `at` in it.
     pub fn next(&mut self, at: S) -> Result<Option<Item<'i>>, Refusal>
         ensures { Walks at self.old result self.new }
     {

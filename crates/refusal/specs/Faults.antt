@@ -31,7 +31,9 @@ number Nothing = 21
 
 -- the faults in the order of their numbers
 abbrev pub faults : List Fault
-faults = Size ∷ State ∷ Row ∷ Domain ∷ Range ∷ Symbols ∷ Busy ∷ Worn ∷ Foreign ∷ Ousted ∷ Schemas ∷ Steps ∷ Early ∷ Scratch ∷ Short ∷ Number ∷ Symbol ∷ Deep ∷ Rest ∷ Room ∷ Nothing ∷ []
+faults =
+    Size ∷ State ∷ Row ∷ Domain ∷ Range ∷ Symbols ∷ Busy ∷ Worn ∷ Foreign ∷ Ousted ∷ Schemas
+    ∷ Steps ∷ Early ∷ Scratch ∷ Short ∷ Number ∷ Symbol ∷ Deep ∷ Rest ∷ Room ∷ Nothing ∷ []
 
 -- the numbers are 1 to 21, and each is the number of one fault
 pub record Numbered : Type 0 where

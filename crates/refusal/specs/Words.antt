@@ -7,7 +7,12 @@ use Rattle.refusal.specs.Faults.{number, layer}
 
 -- the words in the order of the numbers, from 0, which has no letters
 abbrev pub words : List (List ℕ)
-words = [] ∷ codes "size" ∷ codes "state" ∷ codes "row" ∷ codes "domain" ∷ codes "range" ∷ codes "symbols" ∷ codes "busy" ∷ codes "worn" ∷ codes "foreign" ∷ codes "ousted" ∷ codes "schemas" ∷ codes "steps" ∷ codes "early" ∷ codes "scratch" ∷ codes "short" ∷ codes "number" ∷ codes "symbol" ∷ codes "deep" ∷ codes "rest" ∷ codes "room" ∷ codes "nothing" ∷ []
+words =
+    []
+    ∷ codes "size" ∷ codes "state" ∷ codes "row" ∷ codes "domain" ∷ codes "range" ∷ codes "symbols"
+    ∷ codes "busy" ∷ codes "worn" ∷ codes "foreign" ∷ codes "ousted" ∷ codes "schemas" ∷ codes "steps"
+    ∷ codes "early" ∷ codes "scratch" ∷ codes "short" ∷ codes "number" ∷ codes "symbol" ∷ codes "deep"
+    ∷ codes "rest" ∷ codes "room" ∷ codes "nothing" ∷ []
 
 -- the letters for a number: none past the table's end
 abbrev pub word_at : ℕ → List ℕ
@@ -25,4 +30,6 @@ layer_word Bytes = codes "bytes"
 
 -- how a refusal is printed: number, word, layer and place, as in `5 range, tables, place 1`
 abbrev pub printed : Refusal → List ℕ
-printed e = decimal (number e.fault) ++ (codes " " ++ (word_at (number e.fault) ++ (codes ", " ++ (layer_word (layer e.fault) ++ (codes ", place " ++ decimal e.place)))))
+printed e =
+    decimal (number e.fault) ++ (codes " " ++ (word_at (number e.fault)
+    ++ (codes ", " ++ (layer_word (layer e.fault) ++ (codes ", place " ++ decimal e.place)))))

@@ -7,6 +7,7 @@ pub mod Onward
 pub mod Either
 pub mod Gathering
 pub mod Permits
+pub mod Reaching
 pub mod Rounds
 pub mod Searches
 pub mod Sizes

@@ -41,6 +41,8 @@ module _ (A : Automaton) where
 -- a state accepts a tree exactly when the nodes can be bound to states, the root to that one, and
 -- then in one way only
 pub record AcceptedIsBound : Type 0 where
-  pub bound : (A : Automaton) (q : ℕ) (t : Tree) → accepts A q t ≡ true → (b : States) × (root b ≡ q) × Bound A t b
+  pub bound :
+      (A : Automaton) (q : ℕ) (t : Tree) → accepts A q t ≡ true
+      → (b : States) × (root b ≡ q) × Bound A t b
   pub accepted : (A : Automaton) (t : Tree) (b : States) → Bound A t b → accepts A (root b) t ≡ true
   pub one : (A : Automaton) (t : Tree) (b c : States) → root b ≡ root c → Bound A t b → Bound A t c → b ≡ c

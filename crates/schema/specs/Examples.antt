@@ -96,7 +96,9 @@ node_with_child = node 0 (child 0 single_node none)
 -- a state that may have no empty sequence and leads only to itself is not live; so the example's
 -- state is not
 pub record LeadsBackDead : Type 0 where
-  pub general : (A : Automaton) (q : ℕ) → A.ends q 0 ≡ false → ((a s : ℕ) → A.next q a ≡ Some s → s ≡ q) → Live A q → ⊥
+  pub general :
+      (A : Automaton) (q : ℕ) → A.ends q 0 ≡ false
+      → ((a s : ℕ) → A.next q a ≡ Some s → s ≡ q) → Live A q → ⊥
   pub example : Live (automaton one_of_two just_zero) 0 → ⊥
 
 -- which of the two trees each of the schemas accepts

@@ -38,7 +38,9 @@ module _ (A : Automaton) where
 
   -- the rank of a state: the least height of a tree that it accepts
   abbrev pub Rank : ℕ → ℕ → Type 0
-  Rank q m = ((t : Tree) × (accepts A q t ≡ true) × (height t ≡ m)) × ((t : Tree) → accepts A q t ≡ true → m ≤ height t)
+  Rank q m =
+      ((t : Tree) × (accepts A q t ≡ true) × (height t ≡ m))
+      × ((t : Tree) → accepts A q t ≡ true → m ≤ height t)
 
   -- bit q of the mask is set exactly for the states below n that have a rank, which is below 64
   abbrev pub RankMask : ℕ → ℕ → Type 0
@@ -48,5 +50,7 @@ module _ (A : Automaton) where
   -- 64, and none at every other number below 64
   pub record Ranked (n mask : ℕ) (ranks : List (Option ℕ)) : Type 0 where
     pub live : LiveMask n mask
-    pub noted : (q : ℕ) → bit mask q ≡ true → (m : ℕ) × (slice_get ranks q ≡ Some (Some m)) × (m < 64) × Rank q m
+    pub noted :
+        (q : ℕ) → bit mask q ≡ true
+        → (m : ℕ) × (slice_get ranks q ≡ Some (Some m)) × (m < 64) × Rank q m
     pub others : (q : ℕ) → q < 64 → bit mask q ≡ false → slice_get ranks q ≡ Some None

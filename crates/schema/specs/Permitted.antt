@@ -10,7 +10,7 @@ use Rattle.schema.specs.Tables.{automaton_of}
 module _ (permitted : ℕ → Bool) where
   -- the automaton in which only permitted symbols have a next state
   abbrev pub permit : Automaton → Automaton
-  permit A = record { next = λ q a. cond (permitted a) (A.next q a) None; step = A.step; ends = A.ends; has = A.has }
+  permit A = record A { next = λ q a. cond (permitted a) (A.next q a) None }
 
   -- each child of the tree, at every node, stands under a permitted symbol
   abbrev mutual

@@ -41,7 +41,9 @@ module _ (A : Automaton) (q : ℕ) where
     -- some sequence over the set that holds the symbol runs from the first row to a row where it
     -- may end
     abbrev pub Held : ℕ → Type 0
-    Held a = (u v : List ℕ) × AllByRecursion (λ b. set b ≡ true) (u ++ a ∷ v) × (row_runs A q 0 (u ++ a ∷ v) ≡ true)
+    Held a =
+        (u v : List ℕ) × AllByRecursion (λ b. set b ≡ true) (u ++ a ∷ v)
+        × (row_runs A q 0 (u ++ a ∷ v) ≡ true)
 
     -- the rows of a set, and those that one symbol of the set leads to from row r
     abbrev pub After : ℕ → ℕ → ℕ → Type 0

@@ -1,10 +1,10 @@
 -- Which of two sequences comes first, read from the first symbol on or from the last one, and why
 -- no more than one is the first. Assumes nothing.
-use Rattle.std.proofs.Common.{◌≡◌, ℕ, ◌<◌, ◌≤◌, ◌⊎◌, List, [], ◌∷◌, ◌++◌, reverse, length, sym, refl, ap, ◌∙◌, subst, inl, inr, ⊎_elim, arith}
+use Rattle.std.proofs.Common.{◌≡◌, ℕ, ◌<◌, ◌≤◌, ◌⊎◌, ◌↔◌, List, [], ◌∷◌, ◌++◌, reverse, length, sym, refl, ap, ◌∙◌, subst, inl, inr, ⊎_elim, arith}
 use mathlib.Core.List.{reverse-cons}
 use Rattle.std.proofs.lemmas.List.{length-reverse, reverse-reverse}
 use Rattle.std.proofs.lemmas.Bool.{cases_lt}
-use Rattle.search.specs.Sequences.{Precedes, NoLater, OneFirst, FirstAlike, Sought, OneShortest}
+use Rattle.search.specs.Sequences.{Precedes, NoLater, First, OneFirst, Sought, OneShortest}
 
 -- neither of two precedes the other
 not_both_ways : (w v : List ℕ) → Precedes w v → Precedes v w → ⊥
@@ -30,7 +30,8 @@ one_of_two w v p r =
 pub one_first : (P : List ℕ → Type 0) → OneFirst P
 one_first P w v f g = one_of_two w v (f.least v g.passes) (g.least w f.passes)
 
-pub first_alike : (P Q : List ℕ → Type 0) → FirstAlike P Q
+-- what is the first of the sequences with P is so with Q too, if P and Q say the same of every sequence
+pub first_alike : (P Q : List ℕ → Type 0) → ((w : List ℕ) → P w ↔ Q w) → (w : List ℕ) → First P w → First Q w
 first_alike P Q alike w f = record { passes = (alike w).0 f.passes; least = λ v h. f.least v ((alike v).1 h) }
 
 pub one_shortest : OneShortest

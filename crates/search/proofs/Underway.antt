@@ -160,7 +160,7 @@ module _ (A : Automaton) (q : ℕ) (set : ℕ → Bool) (W : Watching) (rows sym
         few = omega (arith, low, t.under.fence.few)
 
         listed : (r s : ℕ) → is_visited l' r s ≡ (is_visited l r s || (eqb f.row r && eqb f.watch s))
-        listed = o.listed few (omega (arith, narrow, t.under.narrow))
+        listed = o.visited few (omega (arith, narrow, t.under.narrow))
 
         room : length es < 16 * states
         room = room_left states l l' es f t.under.noted few narrow o.new listed
@@ -214,7 +214,7 @@ module _ (A : Automaton) (q : ℕ) (set : ℕ → Bool) (W : Watching) (rows sym
 
     pub begins : (i : Option ℕ) → Visits p l pile i l' pile' → goal A q W p ≡ false → Underway l' pile' 0 0
     begins (Some i) o not-goal =
-        let noted = noted_more states l l' [] p (nothing_noted states l none) (omega (arith, row)) starts_low o.new (o.listed (omega (arith, row)) (omega (arith, starts_low))) in
+        let noted = noted_more states l l' [] p (nothing_noted states l none) (omega (arith, row)) starts_low o.new (o.visited (omega (arith, row)) (omega (arith, starts_low))) in
         record {
           fence = fence;
           below = below;

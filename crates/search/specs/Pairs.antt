@@ -24,7 +24,9 @@ goal A q W p = A.ends q p.row && W.wants p.watch
 module _ (A : Automaton) (q : ℕ) (set : ℕ → Bool) (W : Watching) where
   -- the pair that a symbol of the set leads to from a pair, which is entry i
   abbrev pub next_row_pair : RowPair → ℕ → ℕ → Option RowPair
-  next_row_pair p a i = option_map (λ r. record { row = r; watch = W.after p.watch a; symbol = a; parent = i }) (cond (set a) (A.step q p.row a) None)
+  next_row_pair p a i =
+      option_map (λ r. record { row = r; watch = W.after p.watch a; symbol = a; parent = i })
+      (cond (set a) (A.step q p.row a) None)
 
   -- the sequence of an entry is the shortest that is sought; it has fewer symbols than there are
   -- pairs of a row and a state of the watcher, of which there are so many

@@ -30,7 +30,9 @@ module _ {D W : Type 0} (holds : D → ℕ → Bool) (watching : W → Watching)
   -- the shortest sequence that is sought, or none where none is
   abbrev pub ShortestOf : Option (List ℕ) → Type 0
   ShortestOf (Some w) = Shortest (automaton_asked holds s) s.state (bit s.symbols) (watching s.watcher.now) w
-  ShortestOf None = (w : List ℕ) → Sought (automaton_asked holds s) s.state (bit s.symbols) (watching s.watcher.now) w → ⊥
+  ShortestOf None =
+      (w : List ℕ) → Sought (automaton_asked holds s) s.state (bit s.symbols) (watching s.watcher.now) w
+      → ⊥
 
   -- what a search for it finds, where the watcher has so many states
   abbrev pub Answers : ℕ → List RowPair → Option ℕ → Type 0

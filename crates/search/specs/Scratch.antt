@@ -6,4 +6,5 @@ use Rattle.search.specs.declared.pairs.TheConstants.{ROW_PAIRS}
 
 -- `scratch`: too few row pairs are lent; its place is how many are needed
 abbrev pub short_scratch : ℕ → Option Refusal
-short_scratch slots = cond (nat_lt slots ROW_PAIRS) (Some (record { fault = Scratch; place = ROW_PAIRS })) None
+short_scratch slots =
+    cond (nat_lt slots ROW_PAIRS) (Some (record { fault = Scratch; place = ROW_PAIRS })) None

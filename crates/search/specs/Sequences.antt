@@ -1,6 +1,6 @@
 -- Sequences of symbols that are sought at a state, which of two comes first, and the first of those
 -- that are sought. Assumes nothing.
-use Rattle.std.specs.Prelude.{◌≡◌, ℕ, ◌<◌, ◌⊎◌, ◌↔◌, Bool, true, List, [], ◌∷◌, length}
+use Rattle.std.specs.Prelude.{◌≡◌, ℕ, ◌<◌, ◌⊎◌, Bool, true, List, [], ◌∷◌, length}
 use Rattle.std.specs.List.{AllByRecursion}
 use Rattle.schema.specs.Automata.{Automaton, row_runs}
 use Rattle.search.specs.Watching.{Watching, wanted}
@@ -24,11 +24,6 @@ pub record First (P : List ℕ → Type 0) (w : List ℕ) : Type 0 where
 -- of the sequences with P no more than one is the first
 abbrev pub OneFirst : (List ℕ → Type 0) → Type 0
 OneFirst P = (w v : List ℕ) → First P w → First P v → w ≡ v
-
--- what is the first of the sequences with P is so with Q too, if P and Q say the same of every
--- sequence
-abbrev pub FirstAlike : (List ℕ → Type 0) → (List ℕ → Type 0) → Type 0
-FirstAlike P Q = ((w : List ℕ) → P w ↔ Q w) → (w : List ℕ) → First P w → First Q w
 
 module _ (A : Automaton) (q : ℕ) (set : ℕ → Bool) (W : Watching) where
   -- a sequence is sought: its symbols are in the set, it runs from the first row to a row where it

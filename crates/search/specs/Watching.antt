@@ -1,7 +1,9 @@
 -- Watchers as machines over symbols, and the sequences that they want. Assumes nothing.
 use Rattle.std.specs.Prelude.{◌≡◌, ℕ, ◌<◌, min, Bool, true, false, cond, not, ◌||◌, List, [], ◌∷◌, ◌++◌, Some, None, Option, ◌==◌, nat_lt}
 use Rattle.std.proofs.Common.{lit<, arith}
+use Rattle.schema.specs.declared.faults.TheConstants.{STATE_ROWS}
 use Rattle.schema.specs.Automata.{Automaton}
+use Rattle.search.specs.declared.watcher.TheConstants.{WATCHER_STATES}
 
 -- the state before the first symbol, the state after a symbol, and whether a sequence that led to a
 -- state is wanted
@@ -47,25 +49,25 @@ holding_low a = record { start = lit< tt; after = λ s b fits fits'. by (s == 1 
 abbrev pub Holds : ℕ → List ℕ → Type 0
 Holds a w = (u : List ℕ) × (v : List ℕ) × (w ≡ u ++ a ∷ v)
 
--- the next row, where there is a next state too; 16 is gone, and so is what is not below it
+-- the next row, where there is a next state too; STATE_ROWS is gone, and so is what is not below it
 abbrev pub row_or_gone : Option ℕ → Option ℕ → ℕ
-row_or_gone (Some r) (Some s) = min r 16
-row_or_gone (Some r) None = 16
-row_or_gone None o = 16
+row_or_gone (Some r) (Some s) = min r STATE_ROWS
+row_or_gone (Some r) None = STATE_ROWS
+row_or_gone None o = STATE_ROWS
 
 -- the row of state p that the sequence led to, or gone as soon as a symbol has no next row or no
 -- next state there; wanted where it is gone, and where the row is none to end at
 abbrev pub refusing : Automaton → ℕ → Watching
 refusing A p = record {
   start = 0;
-  after = λ s b. cond (nat_lt s 16) (row_or_gone (A.step p s b) (A.next p b)) 16;
-  wants = λ s. not (nat_lt s 16) || not (A.ends p s);
+  after = λ s b. cond (nat_lt s STATE_ROWS) (row_or_gone (A.step p s b) (A.next p b)) STATE_ROWS;
+  wants = λ s. not (nat_lt s STATE_ROWS) || not (A.ends p s);
 }
 
-pub refusing_low : (A : Automaton) (p : ℕ) → WatcherStatesBelow 17 (refusing A p)
-refusing_low A p = record { start = lit< tt; after = λ s b fits fits'. by (nat_lt s 16) (A.step p s b) (A.next p b) }
+pub refusing_low : (A : Automaton) (p : ℕ) → WatcherStatesBelow WATCHER_STATES (refusing A p)
+refusing_low A p = record { start = lit< tt; after = λ s b fits fits'. by (nat_lt s STATE_ROWS) (A.step p s b) (A.next p b) }
   where
-    by : (t : Bool) (row state : Option ℕ) → cond t (row_or_gone row state) 16 < 17
+    by : (t : Bool) (row state : Option ℕ) → cond t (row_or_gone row state) STATE_ROWS < WATCHER_STATES
     by true (Some r) (Some s) = omega arith
     by true (Some r) None = lit< tt
     by true None state = lit< tt

@@ -1,5 +1,6 @@
 //! Watchers: each reads a sequence symbol by symbol, and says whether it wants what it has read.
 ghost use Rattle.std.specs.Prelude.{◌≡◌, ℕ, ◌≤◌};
+ghost use Rattle.search.specs.declared.watcher.TheConstants.{WATCHER_STATES};
 ghost use Rattle.search.specs.Watching.{Watching, WatcherStatesBelow};
 
 use schema::faults::STATE_ROWS;
@@ -32,5 +33,5 @@ pub trait Watcher {
     ghost low: { (w : Self) → WatcherStatesBelow states (watching w) };
 
     // they are WATCHER_STATES at most
-    ghost few: { states ≤ 17 };
+    ghost few: { states ≤ WATCHER_STATES };
 }

@@ -4,7 +4,8 @@ ghost use Rattle.std.specs.Prelude.{◌≡◌, ℕ, ◌<◌, not, List, Decides}
 ghost use Rattle.std.proofs.Common.{lit≤};
 ghost use Rattle.schema.specs.Automata.{allowed};
 ghost use Rattle.schema.specs.Meaning.{IsState, meaning};
-ghost use Rattle.search.specs.Watching.{wanted, anything, anything_low, holding, holding_low, Holds, refusing, refusing_low};
+ghost use Rattle.search.specs.declared.watcher.TheConstants.{WATCHER_STATES};
+ghost use Rattle.search.specs.Watching.{wanted, anything, anything_low, holding, holding_low, Holds, refusing, refusing_low, row_or_gone};
 
 use crate::watcher::Watcher;
 use domain::domain::Domain;
@@ -83,6 +84,16 @@ impl Watcher for Holding {
 // A number: a watcher's state is a bit of the search's masks and a byte of the pairs.
 const GONE: u8 = STATE_ROWS;
 
+/// The next row, where there is a next state too, or gone.
+fn row_there(row: Option<u8>, state: Option<u8>) -> u8
+    ensures { result ≡ row_or_gone row state }
+{
+    match (row, state) {
+        (Some(row), Some(_)) => row.min(GONE),
+        _ => GONE,
+    }
+}
+
 /// Wants the sequences that are not allowed at a state of a schema.
 #[derive(Drop)]
 pub struct Refused<'a, 'b, D> {
@@ -107,7 +118,7 @@ impl<'a, 'b, D: Domain> Refused<'a, 'b, D> {
 impl<D: Domain> Watcher for Refused<'_, '_, D> {
     ghost watching = { λ r. refusing (meaning D.Domain.holds r.tested.now) r.state };
 
-    ghost states = { 17 };
+    ghost states = { WATCHER_STATES };
 
     ghost low = { λ r. refusing_low (meaning D.Domain.holds r.tested.now) r.state };
 
@@ -121,13 +132,10 @@ impl<D: Domain> Watcher for Refused<'_, '_, D> {
         if state >= GONE {
             return GONE;
         }
-        match (
+        row_there(
             self.tested.next_row(self.state, state, symbol),
             self.tested.next_state(self.state, symbol),
-        ) {
-            (Some(row), Some(_)) => row.min(GONE),
-            _ => GONE,
-        }
+        )
     }
 
     fn wants(&self, state: u8) -> bool {
