@@ -15,9 +15,9 @@ Known symbols x place (Ok a) = (a ≡ x) × (x < symbols)
 Known symbols x place (Err e) = (symbols ≤ x) × (e ≡ record { fault = fault.Symbol; place = place })
 
 -- the answer stays where the test passes, and is no otherwise
-abbrev pub stays : Option ℕ → (ℕ → Bool) → Option ℕ
-stays (Some q) test = then_some (test q) q
-stays None test = None
+abbrev pub answer_if : Option ℕ → (ℕ → Bool) → Option ℕ
+answer_if (Some q) test = then_some (test q) q
+answer_if None test = None
 
 -- the node on top, of state q, goes on at the next row, and the next state must accept the child;
 -- where either is lacking the answer is no, and the reader stays as it is
@@ -29,12 +29,12 @@ both_known _ _ q before answer after = (answer ≡ None) × (after ≡ before)
 
 -- one symbol more at the node on top, with what it leaves of the answer and the reader; the answer
 -- stays no, and without a node on top it is no
-abbrev pub StepsOn :
+abbrev pub TakesSymbol :
     Automaton → ℕ → Option ℕ → Option (Level Cursor) → Progress Cursor → Option ℕ → Progress Cursor
     → Type 0
-StepsOn A a (Some q) (Some f) before answer after =
+TakesSymbol A a (Some q) (Some f) before answer after =
     both_known (A.step f.at.state f.at.row a) (A.next f.at.state a) f.at.state before answer after
-StepsOn A a _ _ before answer after = (answer ≡ None) × (after ≡ before)
+TakesSymbol A a _ _ before answer after = (answer ≡ None) × (after ≡ before)
 
 -- the children of the node on top may end where they are
 abbrev pub may_end : Automaton → Option (Level Cursor) → Bool

@@ -6,7 +6,7 @@ ghost use Rattle.codec.specs.Piles.{topmost};
 ghost use Rattle.codec.specs.Reading.{read_all};
 ghost use Rattle.schema.specs.Meaning.{meaning, symbols_of};
 ghost use Rattle.checking.specs.Checking.{verdict};
-ghost use Rattle.checking.specs.Steps.{Known, stays, may_end, StepsOn};
+ghost use Rattle.checking.specs.Steps.{Known, answer_if, may_end, TakesSymbol};
 
 use crate::cursor::Cursor;
 use codec::item::{Item, Level};
@@ -21,7 +21,7 @@ const START: Option<u8> = Some(0);
 
 /// A node's value: its state's domain must have it.
 fn open<D: Domain>(schema: &Tested<D>, answer: Option<u8>, value: u32) -> Option<u8>
-    ensures { result ≡ stays answer (λ q. (meaning D.Domain.holds schema.now).has q value) }
+    ensures { result ≡ answer_if answer (λ q. (meaning D.Domain.holds schema.now).has q value) }
 {
     let state = answer?;
     schema.has(state, value).then_some(state)
@@ -33,7 +33,7 @@ fn close<D: Domain>(
     answer: Option<u8>,
     top: Option<Level<Cursor>>,
 ) -> Option<u8>
-    ensures { result ≡ stays answer (λ q. may_end (meaning D.Domain.holds schema.now) top) }
+    ensures { result ≡ answer_if answer (λ q. may_end (meaning D.Domain.holds schema.now) top) }
 {
     let state = answer?;
     let at = top?.at;
@@ -58,7 +58,7 @@ fn name<D: Domain>(
     reader: &mut Reader<Cursor>,
     symbol: u8,
 ) -> Option<u8>
-    ensures { StepsOn (meaning D.Domain.holds schema.now) symbol answer
+    ensures { TakesSymbol (meaning D.Domain.holds schema.now) symbol answer
         (topmost reader.old.levels.entries) reader.old result reader.new }
 {
     answer?;

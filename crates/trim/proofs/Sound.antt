@@ -8,7 +8,7 @@ use Rattle.schema.specs.Tables.{Tables, entry, transition_byte, row_count, row_b
 use Rattle.schema.proofs.Bound.{passed}
 use Rattle.schema.proofs.Sizes.{Within, Sized, sized, sound_size}
 use Rattle.schema.proofs.Sound.{some_not_none}
-use Rattle.trim.specs.Trimmed.{number, stays, new_transition, new_entry, rows_before, trimmed}
+use Rattle.trim.specs.Trimmed.{new_number, transition_stays, new_transition, new_entry, rows_before, trimmed}
 use Rattle.trim.proofs.Bytes.{transitions_length, states_length, rows_length, transition_new, domain_new, row_count_new, first_row_new, end_mark_new, row_byte_new}
 use Rattle.trim.proofs.Faultless.{Fine, fine, no_fault, stray_below, stray_none}
 use Rattle.trim.proofs.Joined.{sum_step, sum_at_most}
@@ -31,7 +31,7 @@ pub record Stays (T : Tables) (permitted kept : ℕ → Bool) (q a : ℕ) : Type
   pub leads : entry (transition_byte T q a) ≡ Some (transition_byte T q a)
   pub there : kept (transition_byte T q a) ≡ true
 
-pub stays_tells : (T : Tables) (permitted kept : ℕ → Bool) (q a : ℕ) → stays T permitted kept q a ≡ true → Stays T permitted kept q a
+pub stays_tells : (T : Tables) (permitted kept : ℕ → Bool) (q a : ℕ) → transition_stays T permitted kept q a ≡ true → Stays T permitted kept q a
 stays_tells T permitted kept q a h =
     let parts = and_parts (permitted a) _ h in
     let to = passed (entry (transition_byte T q a)) kept parts.1 in
@@ -59,7 +59,7 @@ module _ (T : Tables) (permitted kept : ℕ → Bool) (sound : table_fault T ≡
       few : (rows : ℕ) → rows ≤ n * 16 → T.states ≤ 64 → rows ≤ 1024
       few rows most limit = omega arith
 
-  pub number_few : (n : ℕ) → n ≤ T.states → number T permitted kept n ≤ 64
+  pub number_few : (n : ℕ) → n ≤ T.states → new_number T permitted kept n ≤ 64
   number_few n upto = limit _ (count_le n kept) (sized T (sound_size T sound)).states.to
     where
       limit : (m : ℕ) → m ≤ n → T.states ≤ 64 → m ≤ 64
@@ -89,36 +89,36 @@ module _ (T : Tables) (permitted kept : ℕ → Bool) (sound : table_fault T ≡
         row_table = rows_length T permitted kept T.states;
       }
 
-  transition_fine : (q a : ℕ) → stray (number T permitted kept T.states) (new_transition T permitted kept q a) ≡ false
+  transition_fine : (q a : ℕ) → stray (new_number T permitted kept T.states) (new_transition T permitted kept q a) ≡ false
   transition_fine q a =
       ⊎_elim
       (λ yes.
       let told = stays_tells T permitted kept q a yes in
-      subst (λ (b : ℕ). stray (number T permitted kept T.states) b ≡ false) (sym (cond-true (stays T permitted kept q a) (number T permitted kept (transition_byte T q a)) 255 yes))
+      subst (λ (b : ℕ). stray (new_number T permitted kept T.states) b ≡ false) (sym (cond-true (transition_stays T permitted kept q a) (new_number T permitted kept (transition_byte T q a)) 255 yes))
       (stray_below _ _ (number_below kept T.states (transition_byte T q a) (inside (transition_byte T q a) told.there) told.there)))
-      (λ no. subst (λ (b : ℕ). stray (number T permitted kept T.states) b ≡ false) (sym (cond-false (stays T permitted kept q a) (number T permitted kept (transition_byte T q a)) 255 no)) (stray_none (number T permitted kept T.states)))
-      (cases_Bool (stays T permitted kept q a))
+      (λ no. subst (λ (b : ℕ). stray (new_number T permitted kept T.states) b ≡ false) (sym (cond-false (transition_stays T permitted kept q a) (new_number T permitted kept (transition_byte T q a)) 255 no)) (stray_none (new_number T permitted kept T.states)))
+      (cases_Bool (transition_stays T permitted kept q a))
 
   entry_fine : (q r a limit : ℕ) → stray limit (row_byte T q r a) ≡ false → stray limit (new_entry T permitted kept q r a) ≡ false
-  entry_fine q r a limit old = by (stays T permitted kept q a)
+  entry_fine q r a limit old = by (transition_stays T permitted kept q a)
     where
       by : (b : Bool) → stray limit (cond b (row_byte T q r a) 255) ≡ false
       by true = old
       by false = stray_none limit
 
-  state_fine : (q : ℕ) → kept q ≡ true → Fine (trimmed T permitted kept) (number T permitted kept q)
+  state_fine : (q : ℕ) → kept q ≡ true → Fine (trimmed T permitted kept) (new_number T permitted kept q)
   state_fine q there =
       let low = inside q there in
       let old = fine T sound q low in
       let count = row_count_new T permitted kept q low there in
       record {
-        transitions = λ a in_row. subst (λ (b : ℕ). stray (number T permitted kept T.states) b ≡ false) (sym (transition_new T permitted kept q low there a in_row)) (transition_fine q a);
+        transitions = λ a in_row. subst (λ (b : ℕ). stray (new_number T permitted kept T.states) b ≡ false) (sym (transition_new T permitted kept q low there a in_row)) (transition_fine q a);
         rows = subst (λ (n : ℕ). Within 1 16 n) (sym count) old.rows;
         fits = in_table _ _ _ _ _ _ (first_row_new T permitted kept q low there) count (counted_is q there) (sum_step (counted T kept) T.states q low);
         ends = λ r in_rows. let old_row : r < row_count T q = subst (λ (n : ℕ). r < n) count in_rows in subst (λ (b : ℕ). b ≤ 1) (sym (end_mark_new T permitted kept q low there r old_row)) (old.ends r old_row);
         entries = λ r a in_rows in_row.
             let old_row : r < row_count T q = subst (λ (n : ℕ). r < n) count in_rows in
-            subst (λ (n : ℕ). stray n (row_byte (trimmed T permitted kept) (number T permitted kept q) r a) ≡ false) (sym count)
+            subst (λ (n : ℕ). stray n (row_byte (trimmed T permitted kept) (new_number T permitted kept q) r a) ≡ false) (sym count)
             (subst (λ (b : ℕ). stray (row_count T q) b ≡ false) (sym (row_byte_new T permitted kept q low there r a old_row in_row)) (entry_fine q r a (row_count T q) (old.entries r a old_row in_row)));
         domain = subst (λ (n : ℕ). n < T.domains) (sym (domain_new T permitted kept q low there)) old.domain;
       }

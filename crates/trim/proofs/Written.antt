@@ -5,9 +5,9 @@ use Rattle.codec.specs.Numbers.{overwritten}
 use Rattle.codec.proofs.Writing.{over_length}
 use Rattle.trim.specs.declared.trimming.Trimming.{Trimming}
 use Rattle.trim.specs.Lent.{LinesFit, with_lines}
-use Rattle.trim.specs.Outcome.{Outputs, fits}
-use Rattle.trim.specs.Trimmed.{joined, kept_lines}
-use Rattle.trim.specs.Trimming.{old_tables, permitted_of, kept_of, number_of, rows_before_of, new_transition_of, transition_line_of, state_line_of, row_lines_of, new_tables}
+use Rattle.trim.specs.Outcome.{Outputs, tables_fit}
+use Rattle.trim.specs.Trimmed.{concat_below, kept_lines}
+use Rattle.trim.specs.Trimming.{old_tables, permitted_of, kept_of, new_number_of, rows_before_of, new_transition_of, transition_line_of, state_line_of, row_lines_of, new_tables}
 use Rattle.trim.proofs.Bytes.{transitions_length, states_length, rows_length}
 use Rattle.trim.proofs.Joined.{joined_step, length_singles}
 use Rattle.trim.proofs.Lines.{part_more}
@@ -15,26 +15,26 @@ use Rattle.trim.proofs.Lines.{part_more}
 module _ (kept : ℕ → Bool) (line : ℕ → List ℕ) (out : List ℕ) where
   -- the lines of the kept states below k stand at the output's front
   abbrev pub Filled : ℕ → List ℕ → Type 0
-  Filled k now = now ≡ overwritten out 0 (joined k (λ q. cond (kept q) (line q) []))
+  Filled k now = now ≡ overwritten out 0 (concat_below k (λ q. cond (kept q) (line q) []))
 
   -- a kept state's line has room behind those before it
-  pub line_room : (n k : ℕ) → k < n → kept k ≡ true → length (joined n (λ q. cond (kept q) (line q) [])) ≤ length out → length (joined k (λ q. cond (kept q) (line q) [])) + length (line k) ≤ length out
+  pub line_room : (n k : ℕ) → k < n → kept k ≡ true → length (concat_below n (λ q. cond (kept q) (line q) [])) ≤ length out → length (concat_below k (λ q. cond (kept q) (line q) [])) + length (line k) ≤ length out
   line_room n k low there room =
       omega (arith, joined_step (λ q. cond (kept q) (line q) []) n k low, ap {B = ℕ} length (cond-true (kept k) (line k) [] there))
 
   -- lines that have room leave an output as long as it was
-  pub filled_length : (k : ℕ) (now : List ℕ) → Filled k now → length (joined k (λ q. cond (kept q) (line q) [])) ≤ length out → length now ≡ length out
-  filled_length k now so room = ap length so ∙ over_length out 0 (joined k (λ q. cond (kept q) (line q) [])) (omega arith)
+  pub filled_length : (k : ℕ) (now : List ℕ) → Filled k now → length (concat_below k (λ q. cond (kept q) (line q) [])) ≤ length out → length now ≡ length out
+  filled_length k now so room = ap length so ∙ over_length out 0 (concat_below k (λ q. cond (kept q) (line q) [])) (omega arith)
 
   -- one kept state more
-  pub line_more : (k place : ℕ) (now : List ℕ) → kept k ≡ true → place ≡ length (joined k (λ q. cond (kept q) (line q) [])) → place ≤ length out → Filled k now → Filled (k + 1) (overwritten now place (line k))
+  pub line_more : (k place : ℕ) (now : List ℕ) → kept k ≡ true → place ≡ length (concat_below k (λ q. cond (kept q) (line q) [])) → place ≤ length out → Filled k now → Filled (k + 1) (overwritten now place (line k))
   line_more k place now there is inside so =
       ap (overwritten now place) (sym (cond-true (kept k) (line k) [] there)) ∙ part_more out (λ q. cond (kept q) (line q) []) k place now so is inside
 
   -- a state that is not kept
   pub line_same : (k : ℕ) (now : List ℕ) → kept k ≡ false → Filled k now → Filled (k + 1) now
   line_same k now out-of-it so =
-      so ∙ ap (overwritten out 0) (sym (append-nil _) ∙ ap (λ (l : List ℕ). joined k (λ q. cond (kept q) (line q) []) ++ l) (sym (cond-false (kept k) (line k) [] out-of-it)) ∙ ap (λ (n : ℕ). joined n (λ q. cond (kept q) (line q) [])) (sym (add-one k)))
+      so ∙ ap (overwritten out 0) (sym (append-nil _) ∙ ap (λ (l : List ℕ). concat_below k (λ q. cond (kept q) (line q) []) ++ l) (sym (cond-false (kept k) (line k) [] out-of-it)) ∙ ap (λ (n : ℕ). concat_below n (λ q. cond (kept q) (line q) [])) (sym (add-one k)))
 
 module _ {D : Type 0} (t : Trimming D) (out : Outputs) where
   -- the outputs after the states below k
@@ -49,17 +49,17 @@ module _ {D : Type 0} (t : Trimming D) (out : Outputs) where
     pub state_table : length (new_tables t).state_table ≤ length out.state_table
     pub row_table : length (new_tables t).row_table ≤ length out.row_table
 
-  pub rooms : fits (new_tables t) out ≡ true → Rooms
+  pub rooms : tables_fit (new_tables t) out ≡ true → Rooms
   rooms h =
       let first = and_parts _ _ h in
       let others = and_parts _ _ first.1 in
       record { transitions = leb-true _ _ first.0; state_table = leb-true _ _ others.0; row_table = leb-true _ _ others.1 }
 
   -- where a kept state's lines go
-  transitions_at : (k : ℕ) → number_of t k * (old_tables t).symbols ≡ length (kept_lines (old_tables t) (permitted_of t) (kept_of t) k (transition_line_of t))
+  transitions_at : (k : ℕ) → new_number_of t k * (old_tables t).symbols ≡ length (kept_lines (old_tables t) (permitted_of t) (kept_of t) k (transition_line_of t))
   transitions_at k = sym (transitions_length (old_tables t) (permitted_of t) (kept_of t) k)
 
-  state_at : (k : ℕ) → 4 * number_of t k ≡ length (kept_lines (old_tables t) (permitted_of t) (kept_of t) k (state_line_of t))
+  state_at : (k : ℕ) → 4 * new_number_of t k ≡ length (kept_lines (old_tables t) (permitted_of t) (kept_of t) k (state_line_of t))
   state_at k = sym (states_length (old_tables t) (permitted_of t) (kept_of t) k)
 
   rows_at : (k : ℕ) → rows_before_of t k * ((old_tables t).symbols + 1) ≡ length (kept_lines (old_tables t) (permitted_of t) (kept_of t) k (row_lines_of t))
@@ -82,8 +82,8 @@ module _ {D : Type 0} (t : Trimming D) (out : Outputs) where
   pub upto_more : (k : ℕ) (now : Outputs) → k < (old_tables t).states → kept_of t k ≡ true → Rooms → Upto k now → Upto (k + 1) (with_lines t k now)
   upto_more k now low there room so =
       record {
-        transitions = line_more (kept_of t) (transition_line_of t) out.transitions k (number_of t k * (old_tables t).symbols) now.transitions there (transitions_at k) (omega (arith, transitions_at k, line_room (kept_of t) (transition_line_of t) out.transitions (old_tables t).states k low there room.transitions)) so.transitions;
-        state_table = line_more (kept_of t) (state_line_of t) out.state_table k (4 * number_of t k) now.state_table there (state_at k) (omega (arith, state_at k, line_room (kept_of t) (state_line_of t) out.state_table (old_tables t).states k low there room.state_table)) so.state_table;
+        transitions = line_more (kept_of t) (transition_line_of t) out.transitions k (new_number_of t k * (old_tables t).symbols) now.transitions there (transitions_at k) (omega (arith, transitions_at k, line_room (kept_of t) (transition_line_of t) out.transitions (old_tables t).states k low there room.transitions)) so.transitions;
+        state_table = line_more (kept_of t) (state_line_of t) out.state_table k (4 * new_number_of t k) now.state_table there (state_at k) (omega (arith, state_at k, line_room (kept_of t) (state_line_of t) out.state_table (old_tables t).states k low there room.state_table)) so.state_table;
         row_table = line_more (kept_of t) (row_lines_of t) out.row_table k (rows_before_of t k * ((old_tables t).symbols + 1)) now.row_table there (rows_at k) (omega (arith, rows_at k, line_room (kept_of t) (row_lines_of t) out.row_table (old_tables t).states k low there room.row_table)) so.row_table;
       }
 

@@ -8,7 +8,7 @@ use Rattle.schema.specs.Tables.{Tables, automaton}
 use Rattle.trim.specs.Examples.{SmallTrims}
 use Rattle.trim.specs.Kept.{Kept, Used}
 use Rattle.trim.specs.Outcome.{OneTrimming}
-use Rattle.trim.specs.Trimmed.{number, trimmed}
+use Rattle.trim.specs.Trimmed.{new_number, trimmed}
 
 -- over the same domains: the result passes the test of the tables, it accepts exactly the old trees
 -- over permitted symbols, the states kept are exactly those bound to some node of some such tree,
@@ -21,7 +21,7 @@ pub record Trims (T : Tables) (domains : List (ℕ → Bool)) (permitted kept : 
       ≡ (accepts (automaton T domains) 0 t && over permitted t)
   pub used : (q : ℕ) → Decides (kept q) (Used (automaton T domains) permitted q)
   pub useful :
-      (q : ℕ) → q < number T permitted kept T.states
+      (q : ℕ) → q < new_number T permitted kept T.states
       → Used (automaton (trimmed T permitted kept) domains) (λ _. true) q
 
 pub record TrimmingLaw : Type 0 where

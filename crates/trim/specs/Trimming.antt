@@ -6,8 +6,8 @@ use Rattle.refusal.specs.declared.fault.Refusal.{Refusal}
 use Rattle.schema.specs.Meaning.{tables_of}
 use Rattle.schema.specs.Tables.{Tables, sets}
 use Rattle.trim.specs.declared.trimming.Trimming.{Trimming}
-use Rattle.trim.specs.Outcome.{Keeps, NothingLeft}
-use Rattle.trim.specs.Trimmed.{number, stays, new_transition, new_entry, «rows_before», transition_line, «state_line», «row_line», row_lines, trimmed}
+use Rattle.trim.specs.Outcome.{KeptSet, NothingLeft}
+use Rattle.trim.specs.Trimmed.{new_number, transition_stays, new_transition, new_entry, «rows_before», transition_line, «state_line», «row_line», row_lines, trimmed}
 
 module _ {D : Type 0} (t : Trimming D) where
   -- the tables that are trimmed
@@ -22,16 +22,16 @@ module _ {D : Type 0} (t : Trimming D) where
   kept_of = bit t.kept
 
   -- how many kept states come before a state, and how many rows they have
-  abbrev pub number_of : ℕ → ℕ
-  number_of = number old_tables permitted_of kept_of
+  abbrev pub new_number_of : ℕ → ℕ
+  new_number_of = new_number old_tables permitted_of kept_of
 
   abbrev pub rows_before_of : ℕ → ℕ
   rows_before_of = rows_before old_tables permitted_of kept_of
 
   -- whether the transition of a state under a symbol stays, and what becomes of it and of a row
   -- entry
-  abbrev pub stays_of : ℕ → ℕ → Bool
-  stays_of = stays old_tables permitted_of kept_of
+  abbrev pub transition_stays_of : ℕ → ℕ → Bool
+  transition_stays_of = transition_stays old_tables permitted_of kept_of
 
   abbrev pub new_transition_of : ℕ → ℕ → ℕ
   new_transition_of = new_transition old_tables permitted_of kept_of
@@ -56,7 +56,7 @@ module _ {D : Type 0} (t : Trimming D) where
   pub record TrimmingOf (holds : D → ℕ → Bool) (tested : Tested D) (permitted : ℕ) : Type 0 where
     pub of_schema : t.tested.now ≡ tested
     pub of_symbols : t.permitted ≡ permitted
-    pub keeps : Keeps old_tables (sets holds t.tested.now.measured.schema) permitted_of kept_of
+    pub keeps : KeptSet old_tables (sets holds t.tested.now.measured.schema) permitted_of kept_of
 
   -- the trimmed tables
   abbrev pub new_tables : Tables

@@ -1,7 +1,7 @@
 //! The trimmed tables, written state by state.
 ghost use Rattle.std.specs.Prelude.{◌≡◌, ◌+◌, ◌≤◌, length, true};
 ghost use Rattle.trim.specs.Lent.{held, loans, LinesFit, with_lines};
-ghost use Rattle.trim.specs.Outcome.{fits, written};
+ghost use Rattle.trim.specs.Outcome.{tables_fit, written};
 ghost use Rattle.trim.specs.Trimming.{old_tables, transition_line_of, row_line_of, row_lines_of, new_tables};
 
 use crate::trimming::Trimming;
@@ -81,7 +81,7 @@ impl<D> Trimming<'_, '_, D> {
 
     /// Whether the trimmed tables have room in the outputs.
     pub(crate) fn has_room(&self, outputs: &Outputs) -> bool
-        ensures { result ≡ fits (new_tables self.now) (held outputs.now) }
+        ensures { result ≡ tables_fit (new_tables self.now) (held outputs.now) }
     {
         let (transitions, states, rows) = self.lengths();
         transitions <= outputs.transitions.len()
@@ -92,7 +92,7 @@ impl<D> Trimming<'_, '_, D> {
     /// Writes the trimmed tables at the fronts of the outputs, and gives their state count and row
     /// count.
     pub(crate) fn write_tables(&self, outputs: &mut Outputs) -> (usize, usize)
-        requires { fits (new_tables self.now) (held outputs.old) ≡ true }
+        requires { tables_fit (new_tables self.now) (held outputs.old) ≡ true }
         ensures states { result.0 ≡ (new_tables self.now).states }
         ensures rows { result.1 ≡ (new_tables self.now).rows }
         ensures lent { loans outputs.new ≡ loans outputs.old }

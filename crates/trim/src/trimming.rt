@@ -2,7 +2,7 @@
 ghost use Rattle.std.specs.Prelude.{◌≡◌, ◌^◌, ◌<◌, ◌≤◌, IfOk, IfErr};
 ghost use Rattle.schema.specs.Tables.{row_count, end_mark};
 ghost use Rattle.trim.specs.Trimmed.{state_bytes};
-ghost use Rattle.trim.specs.Trimming.{TrimmingOf, NoneKept, old_tables, kept_of, number_of, rows_before_of, stays_of, new_transition_of, new_entry_of, new_tables};
+ghost use Rattle.trim.specs.Trimming.{TrimmingOf, NoneKept, old_tables, kept_of, new_number_of, rows_before_of, transition_stays_of, new_transition_of, new_entry_of, new_tables};
 
 use crate::kept::{START, kept_states};
 use bits::sets::{has_member, members_below};
@@ -77,7 +77,7 @@ impl<D> Trimming<'_, '_, D> {
 
     /// How many kept states come before a state.
     pub(crate) fn number(&self, state: u8) -> u8
-        ensures { result ≡ number_of self.now state }
+        ensures { result ≡ new_number_of self.now state }
     {
         members_below(self.kept, state)
     }
@@ -104,7 +104,7 @@ impl<D> Trimming<'_, '_, D> {
 
     /// Whether the transition of a state under a symbol stays.
     fn does_stay(&self, state: u8, symbol: u8) -> bool
-        ensures { result ≡ stays_of self.now state symbol }
+        ensures { result ≡ transition_stays_of self.now state symbol }
     {
         has_member(self.permitted, symbol)
             && has_member(

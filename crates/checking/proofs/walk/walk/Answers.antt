@@ -9,7 +9,7 @@ use Rattle.codec.specs.declared.item.Item.TheVariants.{Value, Symbol, End}
 use Rattle.codec.specs.Items.{Walks}
 use Rattle.codec.specs.Piles.{slots, topmost}
 use Rattle.schema.specs.Meaning.{meaning, symbols_of}
-use Rattle.checking.specs.Steps.{StepsOn}
+use Rattle.checking.specs.Steps.{TakesSymbol}
 use Rattle.checking.proofs.Midst.{the_verdict, stops, after_value, after_end, strange, after_symbol, less_symbol}
 use Rattle.checking.proofs.walk.walk.Given as given
 use Rattle.checking.proofs.walk.walk.Goals as goal
@@ -54,9 +54,9 @@ returns-in_err-symbol-in-Symbol g c =
     p.1 ∙ ap Err (p.2 ∙ no.1) ∙ ap (λ (n : ℕ). Err (record { fault = fault.Symbol; place = n })) c.place-place.ensures ∙ lent g at.After-new-reader _ (strange _ _ _ _ _ _ c.loop-item.invariant _ _ _ w no.0)
 
 -- the symbol's step from where the reader handed it out
-stepped : (g : given.Over) (c : goal.After-name-answer g) → StepsOn (meaning g.D.Domain.holds c.args.schema.now) c.in-Symbol.symbol c.loop-item.answer (topmost c.next.new.self.levels.entries) c.next.new.self c.name-answer.result c.name-answer.new.reader
+stepped : (g : given.Over) (c : goal.After-name-answer g) → TakesSymbol (meaning g.D.Domain.holds c.args.schema.now) c.in-Symbol.symbol c.loop-item.answer (topmost c.next.new.self.levels.entries) c.next.new.self c.name-answer.result c.name-answer.new.reader
 stepped g c =
-    subst (λ (n : ℕ). StepsOn (meaning g.D.Domain.holds c.args.schema.now) n c.loop-item.answer (topmost c.next.new.self.levels.entries) c.next.new.self c.name-answer.result c.name-answer.new.reader)
+    subst (λ (n : ℕ). TakesSymbol (meaning g.D.Domain.holds c.args.schema.now) n c.loop-item.answer (topmost c.next.new.self.levels.entries) c.next.new.self c.name-answer.result c.name-answer.new.reader)
     c.in_ok-symbol-in-Symbol.ensures.0 c.name-answer.ensures
 
 pub loop-item-preserved-in_ok-symbol-in-Symbol : goal.loop-item-preserved-in_ok-symbol-in-Symbol

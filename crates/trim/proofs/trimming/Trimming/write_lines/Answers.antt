@@ -1,7 +1,7 @@
 -- Line by line. Assumes nothing.
 use Rattle.std.proofs.Common.{◌≡◌, ◌+◌, ◌*◌, ◌≤◌, length, sym, ◌∙◌, arith}
 use Rattle.schema.specs.Tables.{row_count}
-use Rattle.trim.specs.Trimming.{old_tables, permitted_of, kept_of, number_of, rows_before_of, row_lines_of}
+use Rattle.trim.specs.Trimming.{old_tables, permitted_of, kept_of, new_number_of, rows_before_of, row_lines_of}
 use Rattle.schema.proofs.Sizes.{sound_tables}
 use Rattle.trim.proofs.Bytes.{first_length}
 use Rattle.trim.proofs.Sound.{rows_few}
@@ -29,7 +29,7 @@ pub slice_bounds-write_transitions-end : goal.slice_bounds-write_transitions-end
 slice_bounds-write_transitions-end g c =
     let symbols = c.symbols-symbols.ensures in
     let number = c.number-number.ensures in
-    let at : c.number-number.result * c.symbols-symbols.result ≡ number_of c.args.self.now c.args.state * (old_tables c.args.self.now).symbols = λ i. number i * symbols i in
+    let at : c.number-number.result * c.symbols-symbols.result ≡ new_number_of c.args.self.now c.args.state * (old_tables c.args.self.now).symbols = λ i. number i * symbols i in
     let room : c.number-number.result * c.symbols-symbols.result + c.symbols-symbols.result ≤ length c.args.outputs.now.transitions.now = omega (arith, at, symbols, c.requires.transitions) in
     room
 

@@ -2,7 +2,7 @@
 use Rattle.std.proofs.Common.{◌≡◌, ℕ, ◌+◌, ◌*◌, ◌<◌, ◌≤◌, length, sym, ap, ◌∙◌, arith}
 use Rattle.codec.specs.Numbers.{overwritten}
 use Rattle.schema.specs.Tables.{row_count}
-use Rattle.trim.specs.Trimmed.{joined}
+use Rattle.trim.specs.Trimmed.{concat_below}
 use Rattle.trim.specs.Trimming.{old_tables, permitted_of, kept_of, row_line_of, row_lines_of}
 use Rattle.trim.proofs.Bytes.{row_length, first_length, row_room}
 use Rattle.trim.proofs.Joined.{joined_step}
@@ -34,4 +34,4 @@ pub returns : goal.returns
 returns g c =
     let t = c.args.self.now in
     let all : c.loop-row.row ≡ row_count (old_tables t) c.args.state = omega (arith, c.loop-row-test.false, c.loop-row.auto.row-end, c.row_count-row-end.ensures) in
-    c.loop-row.invariant ∙ ap (λ (n : ℕ). overwritten c.args.lines.now 0 (joined n (row_line_of t c.args.state))) all ∙ over_all c.args.lines.now (row_lines_of t c.args.state) (sym c.requires)
+    c.loop-row.invariant ∙ ap (λ (n : ℕ). overwritten c.args.lines.now 0 (concat_below n (row_line_of t c.args.state))) all ∙ over_all c.args.lines.now (row_lines_of t c.args.state) (sym c.requires)
