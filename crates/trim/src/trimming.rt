@@ -87,10 +87,13 @@ impl<D> Trimming<'_, '_, D> {
         requires { state ≤ (old_tables self.now).states }
         ensures { result ≡ rows_before_of self.now state }
     {
-        (0..state)
-            .filter(|&before| self.keeps(before))
-            .map(|before| self.row_count(before) as usize)
-            .sum()
+        let mut rows = 0;
+        for before in 0..state {
+            if self.keeps(before) {
+                rows += self.row_count(before) as usize;
+            }
+        }
+        rows
     }
 
     /// How many states and how many rows the trimmed tables have.
