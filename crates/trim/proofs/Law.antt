@@ -9,9 +9,8 @@ use Rattle.schema.specs.Faults.{table_fault}
 use Rattle.schema.specs.Live.{LiveSymbol, LivePath}
 use Rattle.schema.specs.Permitted.{permit, over, over_all}
 use Rattle.schema.specs.Tables.{Tables, automaton}
-use Rattle.schema.proofs.Gathering.{chosen_some}
+use Rattle.schema.proofs.Permits.{permit_inside}
 use Rattle.schema.proofs.Sizes.{sized, sound_size}
-use Rattle.schema.proofs.Sound.{sound}
 use Rattle.trim.specs.Kept.{Kept, Used}
 use Rattle.trim.specs.Law.{Trims, TrimmingLaw, TrimLaws}
 use Rattle.trim.specs.Trimmed.{new_number, trimmed}
@@ -33,14 +32,12 @@ mutual
   over_all_any (child a t cs) = and_from _ _ (over_any t) (over_all_any cs)
 
 -- paths of tables without a fault stay among the states
-pub kept_inside : (T : Tables) (domains : List (ℕ → Bool)) (permitted : ℕ → Bool) → table_fault T ≡ None → (q : ℕ) → Kept (automaton T domains) permitted q → q < T.states
+kept_inside : (T : Tables) (domains : List (ℕ → Bool)) (permitted : ℕ → Bool) → table_fault T ≡ None → (q : ℕ) → Kept (automaton T domains) permitted q → q < T.states
 kept_inside T domains permitted fault q kept = along kept.1.0 0 (sized T (sound_size T fault)).states.from kept.1.1
   where
     along : (w : List ℕ) (p : ℕ) → p < T.states → LivePath (permit permitted (automaton T domains)) p w q → q < T.states
     along [] p low e = subst (λ (n : ℕ). n < T.states) e low
-    along (a ∷ w) p low path =
-        let is = (chosen_some (permitted a) _ path.1.0 path.1.1).1 in
-        along w path.1.0 ((sound T domains (ap is_some fault)).next_in p a path.1.0 low is) path.1.2
+    along (a ∷ w) p low path = along w path.1.0 (permit_inside permitted T domains (ap is_some fault) p a path.1.0 low path.1.1) path.1.2
 
 module _ (T : Tables) (domains : List (ℕ → Bool)) (permitted kept : ℕ → Bool) (fault : table_fault T ≡ None) (decides : (q : ℕ) → Decides (kept q) (Kept (automaton T domains) permitted q)) (first : kept 0 ≡ true) where
   -- the automaton, the same over the permitted symbols, the trimmed one, and a state's new number
