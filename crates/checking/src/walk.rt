@@ -93,8 +93,8 @@ pub(crate) fn walk<D: Domain>(
             break;
         };
         answer = match item {
-            Item::Value(value, _, _) => open(schema, answer, value),
-            Item::Symbol(symbol, _) => {
+            Item::Value(value, _count, _bytes) => open(schema, answer, value),
+            Item::Symbol(symbol, _bytes) => {
                 let symbol = known(schema, symbol, place)?;
                 name(schema, answer, &mut reader, symbol)
             }

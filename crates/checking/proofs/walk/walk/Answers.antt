@@ -25,7 +25,7 @@ pub loop-item-preserved-in-Value : goal.loop-item-preserved-in-Value
 loop-item-preserved-in-Value g c =
     let at = (goal.at.loop-item-preserved-in-Value g c).In-Some in
     rw (c.open-answer.ensures)
-    (after_value _ _ _ _ _ _ c.loop-item.invariant _ _ _ _ (handed g at (Value c.in-Value.value c.in-Value.field-1 c.in-Value.field-2) c.in-Value.is))
+    (after_value _ _ _ _ _ _ c.loop-item.invariant _ _ _ _ (handed g at (Value c.in-Value.value c.in-Value._count c.in-Value._bytes) c.in-Value.is))
 
 pub loop-item-preserved : goal.loop-item-preserved
 loop-item-preserved g c =
@@ -48,7 +48,7 @@ returns-in_err-item g c =
 pub returns-in_err-symbol-in-Symbol : goal.returns-in_err-symbol-in-Symbol
 returns-in_err-symbol-in-Symbol g c =
     let at = goal.at.returns-in_err-symbol-in-Symbol g c in
-    let w = handed g at.In-Some (Symbol c.in-Symbol.symbol c.in-Symbol.field-1) c.in-Symbol.is in
+    let w = handed g at.In-Some (Symbol c.in-Symbol.symbol c.in-Symbol._bytes) c.in-Symbol.is in
     let no = c.in_err-symbol-in-Symbol.ensures in
     let p = err_from_is_err_and c.from_residual-in_err-symbol-in-Symbol.result c.from_residual-in_err-symbol-in-Symbol.ensures.1 in
     p.1 ∙ ap Err (p.2 ∙ no.1) ∙ ap (λ (n : ℕ). Err (record { fault = fault.Symbol; place = n })) c.place-place.ensures ∙ lent g at.After-new-reader _ (strange _ _ _ _ _ _ c.loop-item.invariant _ _ _ w no.0)
@@ -62,11 +62,11 @@ stepped g c =
 pub loop-item-preserved-in_ok-symbol-in-Symbol : goal.loop-item-preserved-in_ok-symbol-in-Symbol
 loop-item-preserved-in_ok-symbol-in-Symbol g c =
     let at = goal.at.loop-item-preserved-in_ok-symbol-in-Symbol g c in
-    let w = handed g at.In-Some (Symbol c.in-Symbol.symbol c.in-Symbol.field-1) c.in-Symbol.is in
+    let w = handed g at.In-Some (Symbol c.in-Symbol.symbol c.in-Symbol._bytes) c.in-Symbol.is in
     after_symbol _ _ _ _ _ _ c.loop-item.invariant _ _ _ w _ _ (stepped g c) c.in_ok-symbol-in-Symbol.ensures.1
 
 pub loop-item-smaller-in_ok-symbol-in-Symbol : goal.loop-item-smaller-in_ok-symbol-in-Symbol
 loop-item-smaller-in_ok-symbol-in-Symbol g c =
     let at = goal.at.loop-item-smaller-in_ok-symbol-in-Symbol g c in
-    let w = handed g at.In-Some (Symbol c.in-Symbol.symbol c.in-Symbol.field-1) c.in-Symbol.is in
+    let w = handed g at.In-Some (Symbol c.in-Symbol.symbol c.in-Symbol._bytes) c.in-Symbol.is in
     less_symbol _ _ _ _ _ _ c.loop-item.invariant _ _ _ w _ _ (stepped g c)
