@@ -6,7 +6,7 @@ pub use checking::cursor::Cursor;
 pub use codec::item::Level;
 pub use compare::area::Area;
 pub use compare::begin::{oust, take};
-pub use compare::claim::{Apart, ApartClaim, Claim, Comparing, Lease, Numbers};
+pub use compare::claim::{Apart, ApartClaim, Claim, Comparing, ConcludedApart, Lease, Numbers};
 pub use compare::conclude::{Concluded, conclude, give_up};
 pub use compare::phase::{Kind, Verdict};
 pub use compare::step::{MOST_STEPS, step};

@@ -1,13 +1,10 @@
--- What the tests of a beginning tell. Assumes nothing.
-use Rattle.std.proofs.Common.{◌≡◌, false, [], ◌∷◌, Some, None, Option, refl, ap, ◌∙◌}
+-- What the tests of the tables tell, and schemas as they were handed over. Assumes nothing.
+use Rattle.std.proofs.Common.{◌≡◌, false, [], ◌∷◌, Some, None, Option, refl, ap, ◌∙◌, subst}
 use Rattle.refusal.specs.declared.fault.Refusal.{Refusal}
 use Rattle.refusal.specs.Order.{first_of}
 use Rattle.schema.specs.Faults.{faulty, either_fault}
 use Rattle.schema.specs.Tables.{Tables}
 use Rattle.schema.proofs.Either.{either_none}
-use Rattle.compare.specs.declared.event.Event.{Event}
-use Rattle.compare.specs.Beginning.{kept_from, begin_refusal}
-use Rattle.compare.specs.Work.{Work}
 
 -- of schemas without a fault, what keeps them from the work is the refusal
 pub past_either : (T U : Tables) (k o : Option Refusal) → faulty T ≡ false → faulty U ≡ false → k ≡ o → first_of (either_fault T U ∷ k ∷ []) ≡ o
@@ -17,5 +14,6 @@ past_either T U k o fine also is = ap (λ p. first_of (p ∷ k ∷ [])) (either_
     last (Some x) = refl
     last None = refl
 
-pub past_faults : (w : Work) (T U : Tables) (e : Event) (o : Option Refusal) → faulty T ≡ false → faulty U ≡ false → kept_from w T U e ≡ o → begin_refusal w T U e ≡ o
-past_faults w T U e o = past_either T U (kept_from w T U e) o
+-- what holds of two things holds of two that are the same
+pub in_both : {X : Type 0} (P : X → X → Type 0) {a b c d : X} → a ≡ b → c ≡ d → P a c → P b d
+in_both P {a} {b} {c} {d} first second is = subst (λ x. P x d) first (subst (P a) second is)

@@ -6,7 +6,7 @@ use Rattle.std.proofs.lemmas.Bool.{or_left}
 use Rattle.bits.specs.Below.{count_below}
 use Rattle.bits.proofs.Counting.{count_le, count_grows}
 use Rattle.compare.specs.declared.pairs.Listed.{Listed}
-use Rattle.compare.specs.Pairs.{blank, listed, Fits}
+use Rattle.compare.specs.Pairs.{start, listed, Fits}
 use Rattle.compare.proofs.Standing.{listed_push, listed_new}
 
 module _ (n m : ℕ) where
@@ -28,14 +28,14 @@ module _ (n m : ℕ) where
       at_cell : (fs : List Listed) → cell fs (e.first * m + e.second) ≡ listed fs e.first e.second
       at_cell fs = ap (λ (p : ℕ). listed fs p ((e.first * m + e.second) % m)) (div-mul-add e.first m e.second within) ∙ ap (listed fs e.first) (mod-mul-add e.first m e.second within)
 
-  module _ (es : List Listed) (fit : (i : ℕ) → i < length es → Fits n m i (get_or es i blank)) (once : (i : ℕ) → i < length es → listed (take i es) (get_or es i blank).first (get_or es i blank).second ≡ false) where
+  module _ (es : List Listed) (fit : (i : ℕ) → i < length es → Fits n m i (get_or es i start)) (once : (i : ℕ) → i < length es → listed (take i es) (get_or es i start).first (get_or es i start).second ≡ false) where
     counted : (k : ℕ) → k ≤ length es → k ≤ cells (take k es)
     counted zero short = omega arith
     counted (suc k) short =
         let low : k < length es = omega arith in
-        let e = get_or es k blank in
+        let e = get_or es k start in
         let more = more_cells (take k es) e (fit k low).first_inside (fit k low).second_inside (once k low) in
-        let longer : take (suc k) es ≡ take k es ++ e ∷ [] = ap (λ (i : ℕ). take i es) (sym (add-one k)) ∙ take_more es k blank low in
+        let longer : take (suc k) es ≡ take k es ++ e ∷ [] = ap (λ (i : ℕ). take i es) (sym (add-one k)) ∙ take_more es k start low in
         omega (arith, counted k (omega arith), more, ap cells longer)
 
     whole : length es ≤ cells es

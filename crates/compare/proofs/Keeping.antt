@@ -4,7 +4,20 @@ use Rattle.std.proofs.lemmas.List.{length-take-le}
 use Rattle.std.proofs.lemmas.Bool.{and_from, and_parts, cases_eq, cases_lt, eq-eqb, eqb-true, le-leb, leb-true, lt-ltb, ltb-true, not_from_false, not-true, or_cases, or_left, or_right}
 use Rattle.bits.specs.Bits.{bit}
 use Rattle.compare.specs.declared.pairs.Listed.{Listed}
-use Rattle.compare.specs.Pairs.{all_below, agree, blank, is_blank, listed, fits, all_fit, none_twice, bits_say, blank_from, kept_pairs, Fits, Kept}
+use Rattle.compare.specs.Pairs.{all_below, agree, start, is_blank, listed, fits, all_fit, none_twice, bits_say, blank_from, kept_pairs, Fits}
+
+-- `kept_pairs` in plain facts
+pub record Kept (n m : ℕ) (slots : List Listed) (k : ℕ) (bits : List ℕ) : Type 0 where
+  pub few_firsts : n ≤ 64
+  pub few_seconds : m ≤ 64
+  pub short : k ≤ 4096
+  pub fit : (i : ℕ) → i < k → Fits n m i (get_or (take k slots) i start)
+  pub once : (i : ℕ) → i < k → listed (take i (take k slots)) (get_or (take k slots) i start).first (get_or (take k slots) i start).second ≡ false
+  pub masks : length bits ≡ 64
+  pub narrow : (p : ℕ) → p < 64 → get_or bits p 0 < 2 ^ 64
+  pub say : (p q : ℕ) → p < 64 → q < 64 → bit (get_or bits p 0) q ≡ listed (take k slots) p q
+  pub slots_long : length slots ≡ 4096
+  pub rest : (i : ℕ) → k ≤ i → i < 4096 → get_or slots i start ≡ start
 
 module _ (test : ℕ → Bool) where
   -- where all pass, each does
@@ -29,7 +42,7 @@ agree_from : (a b : Bool) → a ≡ b → agree a b ≡ true
 agree_from true b e = sym e
 agree_from false b e = not_from_false b (sym e)
 
-blank_tells : (e : Listed) → is_blank e ≡ true → e ≡ blank
+blank_tells : (e : Listed) → is_blank e ≡ true → e ≡ start
 blank_tells e h =
     let parts = and_parts (eqb e.first 0 && eqb e.second 0) (eqb e.parent 0 && eqb e.symbol 0) h in
     let states = and_parts (eqb e.first 0) (eqb e.second 0) parts.0 in
@@ -60,10 +73,10 @@ module _ (n m : ℕ) (slots : List Listed) (k : ℕ) (bits : List ℕ) where
 
   -- the tests of one place, one mask and one slot
   abbrev fits_at : ℕ → Bool
-  fits_at i = fits n m i (get_or es i blank)
+  fits_at i = fits n m i (get_or es i start)
 
   abbrev new_at : ℕ → Bool
-  new_at i = not (listed (take i es) (get_or es i blank).first (get_or es i blank).second)
+  new_at i = not (listed (take i es) (get_or es i start).first (get_or es i start).second)
 
   abbrev says_at : ℕ → ℕ → Bool
   says_at p q = agree (bit (get_or bits p 0) q) (listed es p q)
@@ -72,12 +85,12 @@ module _ (n m : ℕ) (slots : List Listed) (k : ℕ) (bits : List ℕ) where
   mask_at p = ltb (get_or bits p 0) (2 ^ 64) && all_below 64 (says_at p)
 
   abbrev blank_at : ℕ → Bool
-  blank_at i = ltb i k || is_blank (get_or slots i blank)
+  blank_at i = ltb i k || is_blank (get_or slots i start)
 
   -- what is kept, in plain facts
-  pub kept_tells : kept_pairs n m slots k bits ≡ true → Kept n m slots k bits
+  pub kept_pairs_tell : kept_pairs n m slots k bits ≡ true → Kept n m slots k bits
   unfolding kept_pairs all_fit none_twice bits_say blank_from
-  kept_tells h =
+  kept_pairs_tell h =
       let halves = and_parts ((leb n 64 && leb m 64) && leb k 4096) _ h in
       let counts = and_parts (leb n 64 && leb m 64) (leb k 4096) halves.0 in
       let states = and_parts (leb n 64) (leb m 64) counts.0 in
@@ -94,26 +107,26 @@ module _ (n m : ℕ) (slots : List Listed) (k : ℕ) (bits : List ℕ) where
         few_firsts = leb-true n 64 states.0;
         few_seconds = leb-true m 64 states.1;
         short = short;
-        fit = λ i low. fits_tells n m i (get_or es i blank) (every fits_at (length es) order.0 i (omega arith));
+        fit = λ i low. fits_tells n m i (get_or es i start) (every fits_at (length es) order.0 i (omega arith));
         once = λ i low. not-true _ (every new_at (length es) order.1 i (omega arith));
         masks = eqb-true (length bits) 64 masks.0;
         narrow = λ p low. ltb-true (get_or bits p 0) (2 ^ 64) (mask p low).0;
         say = λ p q low narrow. agree_tells _ _ (every (says_at p) 64 (mask p low).1 q narrow);
         slots_long = long;
         rest = λ i past inside.
-            ⊎_elim (λ early. absurd (omega (arith, ltb-true i k early))) (blank_tells (get_or slots i blank)) (or_cases (ltb i k) _ (every blank_at 4096 rest.1 i inside));
+            ⊎_elim (λ early. absurd (omega (arith, ltb-true i k early))) (blank_tells (get_or slots i start)) (or_cases (ltb i k) _ (every blank_at 4096 rest.1 i inside));
       }
 
   -- and back
-  pub kept_from : Kept n m slots k bits → kept_pairs n m slots k bits ≡ true
+  pub kept_pairs_from : Kept n m slots k bits → kept_pairs n m slots k bits ≡ true
   unfolding kept_pairs all_fit none_twice bits_say blank_from
-  kept_from h =
+  kept_pairs_from h =
       let many : length es ≡ k = length-take-le k slots (omega (arith, h.short, h.slots_long)) in
       and_from _ _
       (and_from _ _ (and_from _ _ (le-leb n 64 h.few_firsts) (le-leb m 64 h.few_seconds)) (le-leb k 4096 h.short))
       (and_from _ _
       (and_from _ _
-      (from_every fits_at (length es) (λ i low. fits_from n m i (get_or es i blank) (h.fit i (omega arith))))
+      (from_every fits_at (length es) (λ i low. fits_from n m i (get_or es i start) (h.fit i (omega arith))))
       (from_every new_at (length es) (λ i low. not_from_false _ (h.once i (omega arith)))))
       (and_from _ _
       (and_from _ _ (eq-eqb (length bits) 64 h.masks)

@@ -6,9 +6,7 @@ use Rattle.bits.specs.Bits.{bit}
 use Rattle.schema.specs.Automata.{Automaton, passes, allowed}
 use Rattle.schema.specs.Live.{LiveMask}
 use Rattle.schema.proofs.Holding.{live_of_over, over_of_live}
-use Rattle.search.specs.declared.pairs.RowPair.{RowPair}
-use Rattle.search.specs.Pairs.{Finds}
-use Rattle.search.specs.Sequences.{Sought}
+use Rattle.search.specs.Sequences.{Sought, Shortest}
 use Rattle.search.specs.Watching.{Watching, wanted}
 use Rattle.compare.specs.declared.phase.Kind.TheVariants.{Content}
 use Rattle.compare.specs.Breaking.{Broken}
@@ -30,7 +28,12 @@ module _ (A B : Automaton) (n live p q : ℕ) (low : p < n) (inside : (p a s : �
         wants = means b.0 ∙ not_from_false (allowed B q b.0) b.2;
       }
 
-  -- the search finds one exactly where the pair is broken in content
-  pub found_breaks : (states : ℕ) (es : List RowPair) (found : Option ℕ) → Finds A p set W states es found → Decides (is_some found) (Broken A B Content p q)
-  found_breaks states es (Some i) f = (λ e. breaks f.sequence f.shortest.passes, λ b. refl)
-  found_breaks states es None f = (λ e. absurd (false≢true e), λ b. absurd (f b.0 (sought b)))
+  -- what a search for one answers: the shortest, or that there is none
+  abbrev Answered : Option (List ℕ) → Type 0
+  Answered (Some w) = Shortest A p set W w
+  Answered None = (w : List ℕ) → Sought A p set W w → ⊥
+
+  -- it answers one exactly where the pair is broken in content
+  pub found_breaks : (found : Option (List ℕ)) → Answered found → Decides (is_some found) (Broken A B Content p q)
+  found_breaks (Some w) f = (λ e. breaks w f.passes, λ b. refl)
+  found_breaks None f = (λ e. absurd (false≢true e), λ b. absurd (f b.0 (sought b)))

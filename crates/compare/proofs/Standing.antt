@@ -5,7 +5,7 @@ use Rattle.std.proofs.lemmas.Bool.{and_from, and_parts, both_ways, eq-eqb, eqb-t
 use Rattle.std.proofs.Math.Bool.{or-false, or_assoc}
 use Rattle.std.proofs.lemmas.Option.{none-some, same_Some}
 use Rattle.compare.specs.declared.pairs.Listed.{Listed}
-use Rattle.compare.specs.Pairs.{blank, is_of, listed}
+use Rattle.compare.specs.Pairs.{start, is_of, listed}
 
 -- an entry is of its own states
 of_itself : (e : Listed) → is_of e.first e.second e ≡ true
@@ -21,7 +21,7 @@ pub listed_new : (es : List Listed) (e : Listed) → listed (es ++ e ∷ []) e.f
 listed_new es e = listed_push es e e.first e.second ∙ or_right (listed es e.first e.second) _ (of_itself e)
 
 -- a listed pair is an entry's
-pub listed_tells : (es : List Listed) (p q : ℕ) → listed es p q ≡ true → (i : ℕ) × (i < length es) × ((get_or es i blank).first ≡ p) × ((get_or es i blank).second ≡ q)
+pub listed_tells : (es : List Listed) (p q : ℕ) → listed es p q ≡ true → (i : ℕ) × (i < length es) × ((get_or es i start).first ≡ p) × ((get_or es i start).second ≡ q)
 listed_tells [] p q h = absurd (both_ways false refl h)
 listed_tells (e ∷ es) p q h =
     ⊎_elim

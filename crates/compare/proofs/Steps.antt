@@ -5,17 +5,17 @@ use Rattle.std.proofs.lemmas.List.{get_or_append_left, get_or_push, get_or-repli
 use Rattle.std.proofs.lemmas.Bool.{cases_Bool, cases_eq, cases_lt}
 use Rattle.bits.specs.Bits.{bit}
 use Rattle.bits.proofs.Members.{bit_zero, none_past}
-use Rattle.search.proofs.Listing.{listed_more}
+use Rattle.search.proofs.Visits.{listed_more}
 use Rattle.compare.specs.declared.pairs.Listed.{Listed}
-use Rattle.compare.specs.Pairs.{blank, is_of, listed, kept_pairs, Fits, Kept}
+use Rattle.compare.specs.Pairs.{start, is_of, listed, kept_pairs, Fits}
 use Rattle.compare.proofs.Crowding.{few, room}
-use Rattle.compare.proofs.Keeping.{kept_from}
+use Rattle.compare.proofs.Keeping.{Kept, kept_pairs_from}
 use Rattle.compare.proofs.Standing.{listed_push, listed_tells}
 
--- with no entry every slot is blank and every bit 0
-pub kept_none : (n m : ℕ) → n ≤ 64 → m ≤ 64 → kept_pairs n m (replicate 4096 blank) 0 (replicate 64 0) ≡ true
+-- with no entry every slot is start and every bit 0
+pub kept_none : (n m : ℕ) → n ≤ 64 → m ≤ 64 → kept_pairs n m (replicate 4096 start) 0 (replicate 64 0) ≡ true
 kept_none n m some-firsts some-seconds =
-    kept_from n m (replicate 4096 blank) 0 (replicate 64 0)
+    kept_pairs_from n m (replicate 4096 start) 0 (replicate 64 0)
     (record {
       few_firsts = some-firsts;
       few_seconds = some-seconds;
@@ -25,8 +25,8 @@ kept_none n m some-firsts some-seconds =
       masks = length-replicate {A = ℕ} 64 0;
       narrow = λ p low. subst (λ (b : ℕ). b < 2 ^ 64) (sym (get_or-replicate {A = ℕ} 64 p 0 0 low)) (omega arith);
       say = λ p q low narrow. ap (λ (b : ℕ). bit b q) (get_or-replicate {A = ℕ} 64 p 0 0 low) ∙ bit_zero q;
-      slots_long = length-replicate 4096 blank;
-      rest = λ i past inside. get_or-replicate 4096 i blank blank inside;
+      slots_long = length-replicate 4096 start;
+      rest = λ i past inside. get_or-replicate 4096 i start start inside;
     })
 
 module _ (n m : ℕ) (slots : List Listed) (k : ℕ) (bits : List ℕ) (so : Kept n m slots k bits) where
@@ -36,10 +36,10 @@ module _ (n m : ℕ) (slots : List Listed) (k : ℕ) (bits : List ℕ) (so : Kep
   pub many : length es ≡ k
   many = length-take-le k slots (omega (arith, so.short, so.slots_long))
 
-  fit : (i : ℕ) → i < length es → Fits n m i (get_or es i blank)
+  fit : (i : ℕ) → i < length es → Fits n m i (get_or es i start)
   fit i low = so.fit i (omega (arith, many))
 
-  once : (i : ℕ) → i < length es → listed (take i es) (get_or es i blank).first (get_or es i blank).second ≡ false
+  once : (i : ℕ) → i < length es → listed (take i es) (get_or es i start).first (get_or es i start).second ≡ false
   once i low = so.once i (omega (arith, many))
 
   pub few_kept : length es ≤ m * n
@@ -74,34 +74,34 @@ module _ (n m : ℕ) (slots : List Listed) (k : ℕ) (bits : List ℕ) (so : Kep
     pub pushed : take (k + 1) (set slots k e) ≡ es ++ e ∷ []
     pushed = take_more_set slots k e (omega (arith, room_left, so.slots_long))
 
-    fit_more : (i : ℕ) → i < k + 1 → Fits n m i (get_or (es ++ e ∷ []) i blank)
+    fit_more : (i : ℕ) → i < k + 1 → Fits n m i (get_or (es ++ e ∷ []) i start)
     fit_more i low =
         ⊎_elim
-        (λ old. subst (Fits n m i) (sym (get_or_append_left es (e ∷ []) blank i (omega (arith, many)))) (so.fit i old))
-        (λ last. let at : k ≡ i = omega arith in subst (Fits n m i) (sym (get_or_push es e blank i (many ∙ at))) (subst (λ (j : ℕ). Fits n m j e) at stands))
+        (λ old. subst (Fits n m i) (sym (get_or_append_left es (e ∷ []) start i (omega (arith, many)))) (so.fit i old))
+        (λ last. let at : k ≡ i = omega arith in subst (Fits n m i) (sym (get_or_push es e start i (many ∙ at))) (subst (λ (j : ℕ). Fits n m j e) at stands))
         (cases_lt i k)
 
-    once_more : (i : ℕ) → i < k + 1 → listed (take i (es ++ e ∷ [])) (get_or (es ++ e ∷ []) i blank).first (get_or (es ++ e ∷ []) i blank).second ≡ false
+    once_more : (i : ℕ) → i < k + 1 → listed (take i (es ++ e ∷ [])) (get_or (es ++ e ∷ []) i start).first (get_or (es ++ e ∷ []) i start).second ≡ false
     once_more i low =
-        ap (λ (fs : List Listed). listed fs (get_or (es ++ e ∷ []) i blank).first (get_or (es ++ e ∷ []) i blank).second) (take-append-le i es (e ∷ []) (omega (arith, many)))
+        ap (λ (fs : List Listed). listed fs (get_or (es ++ e ∷ []) i start).first (get_or (es ++ e ∷ []) i start).second) (take-append-le i es (e ∷ []) (omega (arith, many)))
         ∙ ⊎_elim
-        (λ old. ap (λ (x : Listed). listed (take i es) x.first x.second) (get_or_append_left es (e ∷ []) blank i (omega (arith, many))) ∙ so.once i old)
+        (λ old. ap (λ (x : Listed). listed (take i es) x.first x.second) (get_or_append_left es (e ∷ []) start i (omega (arith, many))) ∙ so.once i old)
         (λ last.
         let at : k ≡ i = omega arith in
-        ap (λ (x : Listed). listed (take i es) x.first x.second) (get_or_push es e blank i (many ∙ at))
+        ap (λ (x : Listed). listed (take i es) x.first x.second) (get_or_push es e start i (many ∙ at))
         ∙ ap (λ (fs : List Listed). listed fs e.first e.second) (take_all i es (omega (arith, many))) ∙ new)
         (cases_lt i k)
 
     -- with one entry more in its slot, and its bit set
     pub kept_more : (mask : ℕ) → mask < 2 ^ 64 → ((i : ℕ) → bit mask i ≡ (bit (get_or bits e.first 0) i || (ltb e.second 64 && eqb e.second i))) → kept_pairs n m (set slots k e) (k + 1) (set bits e.first mask) ≡ true
     kept_more mask Fits-mask adds =
-        kept_from n m (set slots k e) (k + 1) (set bits e.first mask)
+        kept_pairs_from n m (set slots k e) (k + 1) (set bits e.first mask)
         (record {
           few_firsts = so.few_firsts;
           few_seconds = so.few_seconds;
           short = omega (arith, room_left);
-          fit = subst (λ (fs : List Listed). (i : ℕ) → i < k + 1 → Fits n m i (get_or fs i blank)) (sym pushed) fit_more;
-          once = subst (λ (fs : List Listed). (i : ℕ) → i < k + 1 → listed (take i fs) (get_or fs i blank).first (get_or fs i blank).second ≡ false) (sym pushed) once_more;
+          fit = subst (λ (fs : List Listed). (i : ℕ) → i < k + 1 → Fits n m i (get_or fs i start)) (sym pushed) fit_more;
+          once = subst (λ (fs : List Listed). (i : ℕ) → i < k + 1 → listed (take i fs) (get_or fs i start).first (get_or fs i start).second ≡ false) (sym pushed) once_more;
           masks = length-set bits e.first mask ∙ so.masks;
           narrow = λ p low.
               ⊎_elim
@@ -113,7 +113,7 @@ module _ (n m : ℕ) (slots : List Listed) (k : ℕ) (bits : List ℕ) (so : Kep
               ∙ ap (λ (b : Bool). b || is_of p q e) (so.say p q low narrow)
               ∙ sym (listed_push es e p q) ∙ ap (λ (fs : List Listed). listed fs p q) (sym pushed);
           slots_long = length-set slots k e ∙ so.slots_long;
-          rest = λ i past inside. let apart : i ≡ k → ⊥ = λ same. omega arith in get_or-set_other slots k i e blank apart ∙ so.rest i (omega arith) inside;
+          rest = λ i past inside. let apart : i ≡ k → ⊥ = λ same. omega arith in get_or-set_other slots k i e start apart ∙ so.rest i (omega arith) inside;
         })
       where
         row_inside : e.first < length bits

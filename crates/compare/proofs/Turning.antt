@@ -9,7 +9,7 @@ use Rattle.compare.specs.declared.phase.Phase.TheVariants as phase
 use Rattle.compare.specs.Phases.{decided}
 use Rattle.compare.specs.Schemas.{Noted}
 use Rattle.compare.specs.Stepping.{Turn}
-use Rattle.compare.specs.Work.{Work}
+use Rattle.compare.specs.View.{View}
 
 -- a step examines where the area runs, and only there
 pub runs_where_examined : (p : Phase) → decided p Step ≡ decision.Examine → p ≡ phase.Running
@@ -20,18 +20,18 @@ runs_where_examined (phase.Apart k) is = absurd (let z : ◌≡◌ {A = ℕ} 0 1
 
 module _ (A B : Automaton) where
   -- the noted counts stay
-  pub counts_stay : (w w' : Work) → Turn A B w w' → (w'.symbols ≡ w.symbols) × (w'.firsts ≡ w.firsts) × (w'.seconds ≡ w.seconds)
+  pub counts_stay : (w w' : View) → Turn A B w w' → (w'.symbols ≡ w.symbols) × (w'.firsts ≡ w.firsts) × (w'.seconds ≡ w.seconds)
   counts_stay w w' turn =
       ⊎_elim
-      (λ none. (ap (λ (x : Work). x.symbols) none.1, ap (λ (x : Work). x.firsts) none.1, ap (λ (x : Work). x.seconds) none.1))
+      (λ none. (ap (λ (x : View). x.symbols) none.1, ap (λ (x : View). x.firsts) none.1, ap (λ (x : View). x.seconds) none.1))
       (λ one.
       ⊎_elim
-      (λ broken. (ap (λ (x : Work). x.symbols) broken.2, ap (λ (x : Work). x.firsts) broken.2, ap (λ (x : Work). x.seconds) broken.2))
-      (λ on. (ap (λ (x : Work). x.symbols) on.1.2, ap (λ (x : Work). x.firsts) on.1.2, ap (λ (x : Work). x.seconds) on.1.2))
+      (λ broken. (ap (λ (x : View). x.symbols) broken.2, ap (λ (x : View). x.firsts) broken.2, ap (λ (x : View). x.seconds) broken.2))
+      (λ on. (ap (λ (x : View). x.symbols) on.1.2, ap (λ (x : View). x.firsts) on.1.2, ap (λ (x : View). x.seconds) on.1.2))
       one.outcome)
       turn
 
-  pub noted_stays : {D : Type 0} (c : Compared D) (w w' : Work) → Turn A B w w' → Noted c w → Noted c w'
+  pub noted_stays : {D : Type 0} (c : Compared D) (w w' : View) → Turn A B w w' → Noted c w → Noted c w'
   noted_stays c w w' turn noted =
       let stay = counts_stay w w' turn in
       record { symbols = stay.0 ∙ noted.symbols; firsts = stay.1 ∙ noted.firsts; seconds = stay.2 ∙ noted.seconds }

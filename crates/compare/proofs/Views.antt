@@ -14,14 +14,14 @@ use Rattle.bits.specs.Bits.{bit}
 use Rattle.compare.specs.declared.pairs.Listed.{Listed}
 use Rattle.compare.specs.declared.pairs.Pairs.{Pairs}
 use Rattle.compare.specs.Listing.{entries_of, FewPairs, EntriesFit, ListedOnce, Determined}
-use Rattle.compare.specs.Pairs.{blank, listed, fits, with_pair, after_listing, kept_pairs, Fits, Kept}
-use Rattle.compare.proofs.Keeping.{fits_tells, kept_tells}
+use Rattle.compare.specs.Pairs.{start, listed, fits, with_pair, after_listing, kept_pairs, Fits}
+use Rattle.compare.proofs.Keeping.{Kept, fits_tells, kept_pairs_tell}
 use Rattle.compare.proofs.Standing.{listed_nth}
 use Rattle.compare.proofs.Steps.{many, few_kept, none_past_masks, says, room_left, pushed, kept_more}
 
 -- what is kept of a list of pairs, in plain facts
 pub kept_of : (p : Pairs) → Kept p.firsts p.seconds p.entries p.length p.bits
-kept_of p = kept_tells p.firsts p.seconds p.entries p.length p.bits p.sound
+kept_of p = kept_pairs_tell p.firsts p.seconds p.entries p.length p.bits p.sound
 
 -- there are as many entries as the length says
 pub many_of : (p : Pairs) → length (entries_of p) ≡ p.length
@@ -39,7 +39,7 @@ pub few_pairs : FewPairs
 few_pairs p = omega (arith, few_kept p.firsts p.seconds p.entries p.length p.bits (kept_of p), mul_comm p.firsts p.seconds)
 
 pub entries_fit : EntriesFit
-entries_fit p i e h = let low : i < p.length = omega (arith, slice_get_within (entries_of p) i e h, many_of p) in subst (Fits p.firsts p.seconds i) (get_or_from_slice_get (entries_of p) i e blank h) ((kept_of p).fit i low)
+entries_fit p i e h = let low : i < p.length = omega (arith, slice_get_within (entries_of p) i e h, many_of p) in subst (Fits p.firsts p.seconds i) (get_or_from_slice_get (entries_of p) i e start h) ((kept_of p).fit i low)
 
 -- an entry is not of the states of an earlier one
 apart : (p : Pairs) (i j : ℕ) (e f : Listed) → i < j → slice_get (entries_of p) i ≡ Some e → slice_get (entries_of p) j ≡ Some f → e.first ≡ f.first → e.second ≡ f.second → ⊥
@@ -47,7 +47,7 @@ apart p i j e f earlier at_i at_j firsts_same seconds-same =
     let es = entries_of p in
     let there : listed (take j es) e.first e.second ≡ true = listed_nth (take j es) i e (nth_take j es i earlier ∙ at_i) in
     let low : j < p.length = omega (arith, slice_get_within es j f at_j, many_of p) in
-    let once : listed (take j es) f.first f.second ≡ false = subst (λ (x : Listed). listed (take j es) x.first x.second ≡ false) (get_or_from_slice_get es j f blank at_j) ((kept_of p).once j low) in
+    let once : listed (take j es) f.first f.second ≡ false = subst (λ (x : Listed). listed (take j es) x.first x.second ≡ false) (get_or_from_slice_get es j f start at_j) ((kept_of p).once j low) in
     both_ways (listed (take j es) f.first f.second) once (sym (ap (λ (a : ℕ). listed (take j es) a e.second) firsts_same ∙ ap (listed (take j es) f.first) seconds-same) ∙ there)
 
 pub listed_once : ListedOnce
@@ -106,10 +106,10 @@ module _ (p q : Pairs) (Listed-same : entries_of p ≡ entries_of q) where
 
   same_slots : p.entries ≡ q.entries
   same_slots =
-      ext_get_or blank p.entries q.entries ((kept_of p).slots_long ∙ sym (kept_of q).slots_long)
+      ext_get_or start p.entries q.entries ((kept_of p).slots_long ∙ sym (kept_of q).slots_long)
       (λ i inside.
       ⊎_elim
-      (λ low. sym (get_or-take p.length p.entries i blank low) ∙ ap (λ (es : List Listed). get_or es i blank) Listed-same ∙ get_or-take q.length q.entries i blank (omega (arith, same_length)))
+      (λ low. sym (get_or-take p.length p.entries i start low) ∙ ap (λ (es : List Listed). get_or es i start) Listed-same ∙ get_or-take q.length q.entries i start (omega (arith, same_length)))
       (λ past. let end : i < 4096 = omega (arith, (kept_of p).slots_long) in (kept_of p).rest i past end ∙ sym ((kept_of q).rest i (omega (arith, same_length)) end))
       (cases_lt i p.length))
 

@@ -1,7 +1,10 @@
--- The list of pairs of states of a work area: what is kept of it at every moment, and what listing one more leaves. Assumes nothing.
-use Rattle.std.specs.Prelude.{◌≡◌, ℕ, zero, suc, ◌^◌, ◌<◌, ◌≤◌, Bool, true, false, cond, not, ◌&&◌, ◌||◌, List, [], ◌∷◌, ◌++◌, length, get_or, take, ◌==◌, nat_le, nat_lt, slice_index, slice_index_or}
+-- The list of pairs of states of a work area: what is kept of it at every moment, and what listing
+-- one more leaves. Assumes nothing.
+use Rattle.std.specs.Prelude.{ℕ, zero, suc, ◌^◌, ◌<◌, Bool, true, false, cond, not, ◌&&◌, ◌||◌, List, [], ◌∷◌, ◌++◌, length, get_or, take, ◌==◌, nat_le, nat_lt, slice_index, slice_index_or}
 use Rattle.bits.specs.Bits.{bit}
+use Rattle.schema.specs.declared.tables.TheConstants.{STATES}
 use Rattle.compare.specs.declared.pairs.Listed.{Listed}
+use Rattle.compare.specs.declared.pairs.TheConstants.{PLACES}
 
 -- every number below n passes
 unfoldable pub all_below : ℕ → (ℕ → Bool) → Bool
@@ -13,9 +16,9 @@ abbrev pub agree : Bool → Bool → Bool
 agree true b = b
 agree false b = not b
 
--- a slot without an entry
-abbrev pub blank : Listed
-blank = record { first = 0; second = 0; parent = 0; symbol = 0 }
+-- the pair (0, 0), which no pair led to; a slot without an entry holds it too
+abbrev pub start : Listed
+start = record { first = 0; second = 0; parent = 0; symbol = 0 }
 
 -- the slot is blank
 abbrev pub is_blank : Listed → Bool
@@ -34,49 +37,47 @@ listed (e ∷ es) p q = is_of p q e || listed es p q
 abbrev pub with_pair : List Listed → Listed → List Listed
 with_pair es e = cond (listed es e.first e.second) es (es ++ e ∷ [])
 
--- an entry can stand at place i: its states lie inside the two counts, and the pair that led to it stands earlier; the first was led to by none
+-- an entry can stand at place i: its states lie inside the two counts, and the pair that led to it
+-- stands earlier; the first was led to by none
 abbrev pub fits : ℕ → ℕ → ℕ → Listed → Bool
 fits n m i e = (nat_lt e.first n && nat_lt e.second m) && (i == 0 || nat_lt e.parent i)
 
--- what listing a pair leaves: where it can stand behind the others, the list with it, and else the list as it was
+-- what listing a pair leaves: where it can stand behind the others, the list with it, and else the
+-- list as it was
 abbrev pub after_listing : ℕ → ℕ → List Listed → Listed → List Listed
 after_listing n m es e = cond (fits n m (length es) e) (with_pair es e) es
 
 -- every entry can stand at its place
 unfoldable pub all_fit : ℕ → ℕ → List Listed → Bool
-all_fit n m es = all_below (length es) (λ i. fits n m i (slice_index_or es i blank))
+all_fit n m es = all_below (length es) (λ i. fits n m i (slice_index_or es i start))
 
 -- no entry has the two states of an earlier one
 unfoldable pub none_twice : List Listed → Bool
-none_twice es = all_below (length es) (λ i. not (listed (take i es) (get_or es i blank).first (get_or es i blank).second))
+none_twice es =
+    all_below (length es) (λ i. not (listed (take i es) (get_or es i start).first (get_or es i start).second))
 
 -- bit q of the mask at p says whether the pair is listed
 unfoldable pub bits_say : List ℕ → List Listed → Bool
-bits_say bits es = length bits == 64 && all_below 64 (λ p. nat_lt (slice_index bits p) (2 ^ 64) && all_below 64 (λ q. agree (bit (slice_index bits p) q) (listed es p q)))
+bits_say bits es =
+    length bits == STATES
+    && all_below STATES (λ p.
+    nat_lt (slice_index bits p) (2 ^ 64)
+    && all_below STATES (λ q. agree (bit (slice_index bits p) q) (listed es p q)))
 
 -- from place k on every slot is blank
 unfoldable pub blank_from : ℕ → List Listed → Bool
-blank_from k slots = length slots == 4096 && all_below 4096 (λ i. nat_lt i k || is_blank (slice_index_or slots i blank))
+blank_from k slots =
+    length slots == PLACES && all_below PLACES (λ i. nat_lt i k || is_blank (slice_index_or slots i start))
 
 -- what is kept at every moment, for n states of the first schema, m of the second, and k entries
 unfoldable pub kept_pairs : ℕ → ℕ → List Listed → ℕ → List ℕ → Bool
-kept_pairs n m slots k bits = ((nat_le n 64 && nat_le m 64) && nat_le k 4096) && ((all_fit n m (take k slots) && none_twice (take k slots)) && (bits_say bits (take k slots) && blank_from k slots))
+kept_pairs n m slots k bits =
+    ((nat_le n STATES && nat_le m STATES) && nat_le k PLACES)
+    && ((all_fit n m (take k slots) && none_twice (take k slots))
+    && (bits_say bits (take k slots) && blank_from k slots))
 
 -- `fits` in plain facts
 pub record Fits (n m i : ℕ) (e : Listed) : Type 0 where
   pub first_inside : e.first < n
   pub second_inside : e.second < m
   pub led : 0 < i → e.parent < i
-
--- `kept_pairs` in plain facts
-pub record Kept (n m : ℕ) (slots : List Listed) (k : ℕ) (bits : List ℕ) : Type 0 where
-  pub few_firsts : n ≤ 64
-  pub few_seconds : m ≤ 64
-  pub short : k ≤ 4096
-  pub fit : (i : ℕ) → i < k → Fits n m i (slice_index_or (take k slots) i blank)
-  pub once : (i : ℕ) → i < k → listed (take i (take k slots)) (get_or (take k slots) i blank).first (get_or (take k slots) i blank).second ≡ false
-  pub masks : length bits ≡ 64
-  pub narrow : (p : ℕ) → p < 64 → slice_index bits p < 2 ^ 64
-  pub say : (p q : ℕ) → p < 64 → q < 64 → bit (slice_index bits p) q ≡ listed (take k slots) p q
-  pub slots_long : length slots ≡ 4096
-  pub rest : (i : ℕ) → k ≤ i → i < 4096 → slice_index_or slots i blank ≡ blank

@@ -1,24 +1,26 @@
-//! The work area: one comparison at a time, with the pairs that it has listed and how many of them are examined.
+//! The work area: one comparison at a time, with the pairs that it has listed and how many of them
+//! are examined.
+ghost use Rattle.refusal.specs.Order.{Refuses};
 ghost use Rattle.std.specs.Prelude.{◌≡◌, false, ◌==◌};
-ghost use Rattle.bits.specs.Bits.{bit};
-ghost use Rattle.compare.specs.Beginning.{«kept_from»};
+ghost use Rattle.compare.specs.Beginning.{begin_kept_from};
 ghost use Rattle.compare.specs.Concluding.{claim_refusal};
-ghost use Rattle.compare.specs.Refusals.{Refuses, phase_refuses};
-ghost use Rattle.compare.specs.Schemas.{first_tables, second_tables};
-ghost use Rattle.schema.specs.Tables.{tables};
-ghost use Rattle.compare.specs.Work.{said, free, begun};
+ghost use Rattle.compare.specs.Refusals.{phase_refuses, holder_refusal};
+ghost use Rattle.compare.specs.Schemas.{begun_by};
+ghost use Rattle.schema.specs.Meaning.{tables_of};
+ghost use Rattle.compare.specs.View.{view, free};
 
 use crate::claim::{Claim, Numbers};
 use crate::compared::Compared;
 use crate::event::{Decision, Event, decide};
-use crate::pairs::{Listed, Pairs};
+use crate::pairs::{Pairs, START};
 use crate::phase::{Phase, Verdict};
-use refusal::fault::{Fault, Refusal};
 use bits::sets::has_member;
+use refusal::fault::{Fault, Refusal};
 use schema::tested::Tested;
 
-/// A work area. What is said of it says all: nothing stays in it of an earlier comparison.
-// No model whose value is what is said: a refusal leaves the whole area as found, which contracts say of the area itself, so both would be written.
+/// A work area. Its view says all: nothing stays in it of an earlier comparison.
+// No model whose value is the view: a refusal leaves the whole area as found, which contracts
+// say of the area itself, so both would be written.
 #[derive(Drop)]
 pub struct Area {
     pub(crate) number: u32,
@@ -29,19 +31,14 @@ pub struct Area {
     pub(crate) examined: u16,
 }
 
-/// The pair (0, 0), which no pair led to.
-// Its parent and symbol are 0 and no option: what led to a pair is asked only where its parent stands before it.
-const START: Listed = Listed {
-    first: 0,
-    second: 0,
-    parent: 0,
-    symbol: 0,
-};
+/// The last serial, which can't be raised.
+pub const LAST_SERIAL: u32 = u32::MAX;
 
 /// A free area with that number.
-// No method of the type, nor is any other call that only our own crates may make: callers get the type with its methods.
+// No method of the type, nor is any other call that only our own crates may make: callers get the
+// type with its methods.
 pub fn free_area(number: u32) -> Area
-    ensures { said result ≡ free number 0 }
+    ensures { view result ≡ free number 0 }
 {
     Area {
         number,
@@ -63,7 +60,7 @@ pub fn refusal(area: &Area, fault: Fault) -> Refusal
 impl Area {
     /// Refuses what the phase refuses of an event.
     pub(crate) fn permits(&self, event: Event) -> Result<(), Refusal>
-        ensures { Refuses (phase_refuses (said self.now) event) result }
+        ensures { Refuses (phase_refuses (view self.now) event) result }
     {
         match decide(self.phase, event) {
             Decision::Refuse(fault) => Err(refusal(self, fault)),
@@ -82,13 +79,15 @@ impl Area {
         second: &Tested<D>,
         event: Event,
     ) -> Result<(), Refusal>
-        ensures { Refuses (kept_from (said self.now) (tables first.now.measured.schema) (tables second.now.measured.schema) event) result }
+        ensures { Refuses
+            (begin_kept_from (view self.now) (tables_of first.now) (tables_of second.now) event)
+            result }
     {
         if first.symbols() != second.symbols() {
             return Err(refusal(self, Fault::Symbols));
         }
         self.permits(event)?;
-        if self.serial == u32::MAX {
+        if self.serial == LAST_SERIAL {
             return Err(refusal(self, Fault::Worn));
         }
         Ok(())
@@ -96,8 +95,8 @@ impl Area {
 
     /// Begins a comparison of two schemas. Nothing earlier stays.
     pub(crate) fn start<D>(&mut self, compared: &Compared<D>)
-        requires { (self.old.serial == 4294967295) ≡ false }
-        ensures { said self.new ≡ begun (said self.old) (first_tables compared.now) (second_tables compared.now) (bit compared.now.live 0) }
+        requires { (self.old.serial == LAST_SERIAL) ≡ false }
+        ensures { view self.new ≡ begun_by compared.now (view self.old) }
     {
         self.serial += 1;
         self.symbols = compared.first.symbols() as u8;
@@ -124,22 +123,31 @@ impl Area {
         })
     }
 
-    /// Refuses what is refused of the claim with these numbers: `foreign`, `ousted`, or what the phase refuses.
-    pub(crate) fn permits_claim(&self, claim: Numbers, event: Event) -> Result<(), Refusal>
-        ensures { Refuses (claim_refusal (said self.now) claim event) result }
+    /// Refuses numbers that are not the holder's: `foreign` or `ousted`.
+    pub(crate) fn permits_holder(&self, claim: Numbers) -> Result<(), Refusal>
+        ensures { Refuses (holder_refusal (view self.now) claim) result }
     {
         if claim.area != self.number {
             return Err(refusal(self, Fault::Foreign));
         }
-        if self.phase == Phase::Free || claim.serial != self.serial {
+        if claim.serial != self.serial {
             return Err(refusal(self, Fault::Ousted));
         }
+        self.permits(Event::Hold)
+    }
+
+    /// Refuses what is refused of the claim with these numbers: `foreign`, `ousted`, or what the
+    /// phase refuses.
+    pub(crate) fn permits_claim(&self, claim: Numbers, event: Event) -> Result<(), Refusal>
+        ensures { Refuses (claim_refusal (view self.now) claim event) result }
+    {
+        self.permits_holder(claim)?;
         self.permits(event)
     }
 
     /// Frees the area: nothing of the comparison stays.
     pub(crate) fn release(&mut self)
-        ensures { said self.new ≡ free self.old.number self.old.serial }
+        ensures { view self.new ≡ free self.old.number self.old.serial }
     {
         self.phase = Phase::Free;
         self.symbols = 0;

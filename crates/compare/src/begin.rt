@@ -2,9 +2,7 @@
 ghost use Rattle.schema.specs.Tables.{tables, sets};
 ghost use Rattle.compare.specs.declared.event.Event.TheVariants.{Take, Oust};
 ghost use Rattle.compare.specs.Beginning.{Beginning};
-ghost use Rattle.compare.specs.Deciding.{BeginsAsDecided};
-ghost use Rattle.compare.specs.Growing.{BeginsGrown};
-ghost use Rattle.compare.specs.Outcomes.{OneBeginning};
+ghost use Rattle.compare.specs.Laws.{BeginLaws};
 
 use crate::area::Area;
 use crate::claim::Claim;
@@ -22,7 +20,8 @@ fn begin<D: Domain>(
     second: &Schema<D>,
     event: Event,
 ) -> Result<Claim, Refusal>
-    ensures { Beginning event (tables first.now) (tables second.now) (sets D.Domain.holds first.now) area.old result area.new }
+    ensures { Beginning event (tables first.now) (tables second.now)
+        (sets D.Domain.holds first.now) area.old result area.new }
 {
     let (first, second) = Tested::both(first, second)?;
     area.permits_start(&first, &second, event)?;
@@ -30,34 +29,33 @@ fn begin<D: Domain>(
     Ok(area.claim())
 }
 
-/// Takes a free area for a comparison of two schemas: (0, 0) is listed, or, where the first schema accepts nothing, the area is ready
-/// with included. Or `size`, `state`, `row`, `domain`, `symbols`, `busy` or `worn`.
-#[tactic(auto, using(crate::proofs::Grown::begins_grown, crate::proofs::Outcomes::one_beginning, crate::proofs::Deciding::takes_as_decided))]
+/// Takes a free area for a comparison of two schemas: (0, 0) is listed, or, where the first schema
+/// accepts nothing, the area is ready with included. Or `size`, `state`, `row`, `domain`,
+/// `symbols`, `busy` or `worn`.
+#[tactic(auto, using(crate::proofs::Laws::take_laws))]
 pub fn take<D: Domain>(
     area: &mut Area,
     first: &Schema<D>,
     second: &Schema<D>,
 ) -> Result<Claim, Refusal>
-    ensures outcome { Beginning Take (tables first.now) (tables second.now) (sets D.Domain.holds first.now) area.old result area.new }
-    ensures grown { BeginsGrown }
-    ensures one { OneBeginning }
-    ensures table { BeginsAsDecided Take }
+    ensures outcome { Beginning Take (tables first.now) (tables second.now)
+        (sets D.Domain.holds first.now) area.old result area.new }
+    ensures laws { BeginLaws Take }
 {
     begin(area, first, second, Event::Take)
 }
 
-// Two calls that differ in the event, and no argument for it: that another's comparison may be ended is said by the call's name.
-/// Takes an area in whatever phase it is. A claim that held it is ousted. Refusals as for `take`, but for `busy`.
-#[tactic(auto, using(crate::proofs::Grown::begins_grown, crate::proofs::Outcomes::one_beginning, crate::proofs::Deciding::ousts_as_decided))]
+/// Takes an area in whatever phase it is. A claim that held it is ousted. Refusals as for `take`,
+/// but for `busy`.
+#[tactic(auto, using(crate::proofs::Laws::oust_laws))]
 pub fn oust<D: Domain>(
     area: &mut Area,
     first: &Schema<D>,
     second: &Schema<D>,
 ) -> Result<Claim, Refusal>
-    ensures outcome { Beginning Oust (tables first.now) (tables second.now) (sets D.Domain.holds first.now) area.old result area.new }
-    ensures grown { BeginsGrown }
-    ensures one { OneBeginning }
-    ensures table { BeginsAsDecided Oust }
+    ensures outcome { Beginning Oust (tables first.now) (tables second.now)
+        (sets D.Domain.holds first.now) area.old result area.new }
+    ensures laws { BeginLaws Oust }
 {
     begin(area, first, second, Event::Oust)
 }

@@ -16,6 +16,11 @@ pub struct Comparing;
 /// Says of a claim that its comparison was concluded apart.
 pub struct Apart;
 
+/// The kinds of claim that a conclusion gives: those of a comparison concluded apart.
+pub trait ConcludedApart {}
+
+impl ConcludedApart for Apart {}
+
 /// A claim, and in its type what its comparison is at. It can't be let go before it is spent.
 pub struct Lease<S> {
     numbers: Numbers,

@@ -6,7 +6,8 @@ use domain::domain::Domain;
 use schema::tested::Tested;
 
 /// Two schemas without a fault, and the live states of the first, one a bit.
-// That the mask is exact is no invariant: a type that keeps it would ask more of who makes one than the contracts do.
+// That the mask is exact is no invariant: a type that keeps it would ask more of who makes one than
+// the contracts do.
 #[derive(Drop)]
 pub struct Compared<'a, 'b, 'c, 'd, D> {
     pub first: &'a Tested<'b, D>,

@@ -1,9 +1,7 @@
 //! Concluding a comparison, and giving one up.
+ghost use Rattle.compare.specs.Claims.{less_refused, RefusedBack};
 ghost use Rattle.compare.specs.Concluding.{Conclusion, GivingUp};
-ghost use Rattle.compare.specs.Deciding.{ConcludesAsDecided, ConclusionEarly, GivesUpAsDecided};
-ghost use Rattle.compare.specs.Growing.{ConcludesGrown, IncludedCarries, ApartTells};
-ghost use Rattle.compare.specs.Outcomes.{OneConclusion, OneGivingUp};
-ghost use Rattle.compare.specs.Strangers.{ConclusionOfStranger, GivingUpOfStranger};
+ghost use Rattle.compare.specs.Laws.{ConcludeLaws, GiveUpLaws};
 
 use crate::area::{Area, refusal};
 use crate::claim::{ApartClaim, Claim, Lease};
@@ -11,7 +9,8 @@ use crate::event::{Decision, Event, decide};
 use crate::phase::{Kind, Phase};
 use refusal::fault::{Fault, Refusal};
 
-/// What a comparison came to, with the count of pairs examined; apart comes with its kind and a claim that holds the area on.
+/// What a comparison came to, with the count of pairs examined; apart comes with its kind and a
+/// claim that holds the area on.
 pub enum Concluded {
     Included(usize),
     Apart(Kind, usize, ApartClaim),
@@ -19,43 +18,39 @@ pub enum Concluded {
 
 /// Concludes the comparison of a ready area. Included spends the claim and frees the area, apart gives an apart claim for it. Or
 /// `foreign`, `ousted` or `early`, with the claim.
-#[tactic(auto, using(crate::proofs::Grown::concludes_grown, crate::proofs::Grown::included_carries, crate::proofs::Grown::apart_tells, crate::proofs::Strangers::conclusion_of_stranger, crate::proofs::Outcomes::one_conclusion, crate::proofs::Deciding::concludes_as_decided, crate::proofs::Deciding::conclusion_early))]
+#[tactic(auto, using(crate::proofs::Laws::conclude_laws))]
 pub fn conclude(area: &mut Area, claim: Claim) -> Result<Concluded, (Refusal, Claim)>
     ensures outcome { Conclusion area.old claim result area.new }
-    ensures grown { ConcludesGrown }
-    ensures included { IncludedCarries }
-    ensures apart { ApartTells }
-    ensures stranger { ConclusionOfStranger }
-    ensures one { OneConclusion }
-    ensures table { ConcludesAsDecided }
-    ensures early { ConclusionEarly }
+    ensures laws { ConcludeLaws }
 {
     // no `?`: the claim goes back with the refusal
-    if let Err(refusal) = area.permits_claim(claim.numbers(), Event::Conclude) {
+    if let Err(refusal) = area.permits_holder(claim.numbers()) {
         return Err((refusal, claim));
     }
     let examined = area.examined as usize;
     match decide(area.phase, Event::Conclude) {
-        Decision::Part(kind) => {
-            area.phase = Phase::Apart(kind);
-            Ok(Concluded::Apart(kind, examined, claim.part()))
-        }
-        _ => {
+        Decision::Release => {
             claim.spend();
             area.release();
             Ok(Concluded::Included(examined))
         }
+        Decision::Part(kind) => {
+            area.phase = Phase::Apart(kind);
+            Ok(Concluded::Apart(kind, examined, claim.part()))
+        }
+        Decision::Refuse(fault) => Err((refusal(area, fault), claim)),
+        Decision::Begin | Decision::Examine | Decision::Stay => unreachable!(),
     }
 }
 
-/// Gives a claim of either kind up. The holder's frees the area and answers 1, an ousted one's only answers 0. Or `foreign`, with the claim.
+/// Gives a claim of either kind up. The holder's frees the area and answers 1, an ousted one's only
+/// answers 0. Or `foreign`, with the claim.
 // A number, as docs/area.md has it: 1 where this freed the area, and 0 where it did not.
-#[tactic(auto, using(crate::proofs::Strangers::giving_up_of_stranger, crate::proofs::Outcomes::one_giving_up, crate::proofs::Deciding::gives_up_as_decided))]
+#[tactic(auto, using(crate::proofs::Laws::give_up_laws))]
 pub fn give_up<S>(area: &mut Area, claim: Lease<S>) -> Result<u32, (Refusal, Lease<S>)>
-    ensures outcome { GivingUp area.old claim result area.new }
-    ensures stranger { GivingUpOfStranger S }
-    ensures one { OneGivingUp S }
-    ensures table { GivesUpAsDecided S }
+    ensures outcome { GivingUp area.old claim.numbers (less_refused result) area.new }
+    ensures back { RefusedBack claim result }
+    ensures laws { GiveUpLaws }
 {
     let numbers = claim.numbers();
     if numbers.area != area.number {

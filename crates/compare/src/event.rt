@@ -5,11 +5,13 @@ ghost use Rattle.compare.specs.Phases.{decided};
 use crate::phase::{Kind, Phase, Verdict};
 use refusal::fault::Fault;
 
-/// What is asked of an area: take and oust by anyone, giving up with any claim of the area, and the rest by the holder.
+/// What is asked of an area: take and oust by anyone, giving up with any claim of the area, and the
+/// rest by the holder, who is asked for first of all.
 #[derive(Clone, Copy, Debug, PartialEq, Eq)]
 pub enum Event {
     Take,
     Oust,
+    Hold,
     Step,
     Conclude,
     Write,
@@ -44,6 +46,7 @@ pub fn decide(phase: Phase, event: Event) -> Decision
         (Phase::Free, Event::GiveUp) => Decision::Stay,
         (Phase::Free, _) => Decision::Refuse(Fault::Ousted),
         (_, Event::GiveUp) => Decision::Release,
+        (_, Event::Hold) => Decision::Stay,
         (Phase::Running, Event::Step) => Decision::Examine,
         (_, Event::Step) => Decision::Stay,
         (Phase::Ready(Verdict::Included), Event::Conclude) => Decision::Release,

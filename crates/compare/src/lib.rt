@@ -1,4 +1,5 @@
-//! Comparing: is every tree that the first schema accepts accepted by the second? Pair by pair of states, in a work area.
+//! Comparing: is every tree that the first schema accepts accepted by the second? Pair by pair of
+//! states, in a work area.
 #![tactic(auto)]
 
 pub mod area;

@@ -7,7 +7,8 @@ pub enum Kind {
     Content,
 }
 
-/// What a comparison comes to: every tree of the first schema is accepted by the second, or some tree is not.
+/// What a comparison comes to: every tree of the first schema is accepted by the second, or some
+/// tree is not.
 #[derive(Clone, Copy, Debug, PartialEq, Eq)]
 pub enum Verdict {
     Included,

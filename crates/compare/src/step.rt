@@ -1,33 +1,34 @@
 //! Examining the listed pairs, one after the other.
-ghost use Rattle.std.specs.Prelude.{◌≡◌, ℕ, ◌<◌, ◌≤◌, ◌&&◌, length, if◌then◌else◌, ◌==◌};
+ghost use Rattle.refusal.specs.Order.{Refuses};
+ghost use Rattle.std.specs.Prelude.{◌≡◌, ℕ, ◌<◌, length, if◌then◌else◌};
+ghost use Rattle.schema.specs.Meaning.{tables_of, symbols_of};
 ghost use Rattle.schema.specs.Tables.{tables, sets};
 ghost use Rattle.bits.specs.Bits.{bit};
-ghost use Rattle.compare.specs.Deciding.{StepsAsDecided};
-ghost use Rattle.compare.specs.Growing.{StepsGrown, GrownSame};
-ghost use Rattle.compare.specs.Listing.{entries_of, FewPairs};
-ghost use Rattle.compare.specs.Outcomes.{OneStepping};
-ghost use Rattle.compare.specs.Refusals.{Refuses};
-ghost use Rattle.compare.specs.Schemas.{first_automaton, second_automaton, StatePair, MarksLive, Noted};
-ghost use Rattle.compare.specs.Stepping.{next_pair, with_nexts, GoesOn, Turn, Stepped, Stepping, step_kept_from, held_kept_from, is_running};
-ghost use Rattle.compare.specs.Strangers.{StepOfStranger};
-ghost use Rattle.compare.specs.Work.{said};
+ghost use Rattle.compare.specs.Examining.{next_of, nexts_of, GoesOnIn, TurnIn, SteppedIn};
+ghost use Rattle.compare.specs.Laws.{StepLaws};
+ghost use Rattle.compare.specs.Listing.{entries_of};
+ghost use Rattle.compare.specs.Refusals.{same_counts, held_kept_from};
+ghost use Rattle.compare.specs.Schemas.{StatePair, MarksLive, Noted, Inside};
+ghost use Rattle.compare.specs.Stepping.{Stepping, step_kept_from, is_running};
+ghost use Rattle.compare.specs.View.{view};
 
 use crate::area::{Area, refusal};
 use crate::claim::Numbers;
 use crate::compared::Compared;
 use crate::event::{Decision, Event, decide};
-use crate::pairs::{Listed, Pairs};
+use crate::pairs::{Listed, PLACES, Pairs};
 use crate::phase::{Phase, Verdict};
+use bits::sets::has_member;
 use domain::domain::Domain;
 use refusal::fault::{Fault, Refusal};
 use schema::live::ALL_SYMBOLS;
-use bits::sets::has_member;
 use schema::tables::Schema;
 use schema::tested::Tested;
-use search::pairs::{ROW_PAIRS, RowPair};
+use search::pairs::RowPair;
+use search::slots::RowSlots;
 
 /// The most pairs that a step may ask for: as many as there are.
-pub const MOST_STEPS: u32 = 4096;
+pub const MOST_STEPS: u32 = PLACES as u32;
 
 /// A listed pair, its place in the list, and the symbols live at its first state.
 #[derive(Clone, Copy, Debug, PartialEq, Eq)]
@@ -38,9 +39,12 @@ struct Leading {
 }
 
 impl Leading {
-    /// The pair that it leads to under a symbol: that of the next states, where the symbol is live and both are there.
+    /// The pair that it leads to under a symbol: that of the next states, where the symbol is live
+    /// and both are there.
     fn next<D: Domain>(self, compared: &Compared<D>, symbol: u8) -> Option<Listed>
-        ensures { result ≡ next_pair self.place symbol (bit self.symbols symbol) ((first_automaton D.Domain.holds compared.now).next self.pair.first symbol) ((second_automaton D.Domain.holds compared.now).next self.pair.second symbol) }
+        ensures { result ≡
+            next_of D.Domain.holds compared.now self.pair self.place
+            (bit self.symbols symbol) symbol }
     {
         if !has_member(self.symbols, symbol) {
             return None;
@@ -59,7 +63,10 @@ impl Leading {
     fn list_nexts<D: Domain>(self, compared: &Compared<D>, pairs: &mut Pairs)
         ensures firsts { pairs.new.firsts ≡ pairs.old.firsts }
         ensures seconds { pairs.new.seconds ≡ pairs.old.seconds }
-        ensures entries { pairs.old.firsts ≡ compared.now.first.now.measured.schema.states → pairs.old.seconds ≡ compared.now.second.now.measured.schema.states → StatePair compared.now self.pair.first self.pair.second → self.place < length (entries_of pairs.old) → entries_of pairs.new ≡ with_nexts (first_automaton D.Domain.holds compared.now) (second_automaton D.Domain.holds compared.now) (bit self.symbols) self.pair.first self.pair.second self.place compared.now.first.now.measured.schema.symbols (entries_of pairs.old) }
+        ensures entries { Inside compared.now pairs.old → StatePair compared.now self.pair.first self.pair.second →
+            self.place < length (entries_of pairs.old) →
+            entries_of pairs.new ≡ nexts_of D.Domain.holds compared.now self.pair self.place (bit self.symbols)
+            (symbols_of compared.now.first.now) (entries_of pairs.old) }
     {
         for symbol in 0..compared.first.symbols() {
             if let Some(next) = self.next(compared, symbol as u8) {
@@ -70,9 +77,12 @@ impl Leading {
 }
 
 impl Area {
-    /// Lists what an unbroken pair leads to; the pair is at a place of the list. The verdict stands where no pair is left behind it.
+    /// Lists what an unbroken pair leads to; the pair is at a place of the list. The verdict stands
+    /// where no pair is left behind it.
     fn go_on<D: Domain>(&mut self, compared: &Compared<D>, pair: Listed, place: u16)
-        ensures { Noted compared.now (said self.old) → MarksLive D.Domain.holds compared.now → StatePair compared.now pair.first pair.second → place < length (entries_of self.old.pairs) → GoesOn (first_automaton D.Domain.holds compared.now) (second_automaton D.Domain.holds compared.now) (said self.old) pair place (said self.new) }
+        ensures { Noted compared.now (view self.old) → MarksLive D.Domain.holds compared.now →
+            StatePair compared.now pair.first pair.second → place < length (entries_of self.old.pairs) →
+            GoesOnIn D.Domain.holds compared.now (view self.old) pair place (view self.new) }
     {
         let symbols = compared
             .first
@@ -90,16 +100,17 @@ impl Area {
         };
     }
 
-    /// Examines the next pair of the list; where none is left, the area is ready with included. ROW_PAIRS slots are lent.
-    fn examine<D: Domain>(&mut self, compared: &Compared<D>, scratch: &mut [RowPair])
-        ensures { Noted compared.now (said self.old) → MarksLive D.Domain.holds compared.now → 272 ≤ length scratch.old → Turn (first_automaton D.Domain.holds compared.now) (second_automaton D.Domain.holds compared.now) (said self.old) (said self.new) }
+    /// Examines the next pair of the list; where none is left, the area is ready with included.
+    fn examine<D: Domain>(&mut self, compared: &Compared<D>, slots: &mut RowSlots)
+        ensures { Noted compared.now (view self.old) → MarksLive D.Domain.holds compared.now →
+            TurnIn D.Domain.holds compared.now (view self.old) (view self.new) }
     {
         let Some(pair) = self.pairs.entry(self.examined as usize) else {
             self.phase = Phase::Ready(Verdict::Included);
             return;
         };
         let place = self.examined;
-        if let Some(kind) = compared.broken(pair.first, pair.second, scratch) {
+        if let Some(kind) = compared.broken(pair.first, pair.second, slots) {
             self.phase = Phase::Ready(Verdict::Apart(kind));
         } else {
             self.go_on(compared, pair, place);
@@ -107,59 +118,57 @@ impl Area {
         self.examined = place + 1;
     }
 
-    /// Examines up to so many pairs, until the verdict stands. ROW_PAIRS slots are lent.
-    fn examine_up_to<D: Domain>(
-        &mut self,
-        compared: &Compared<D>,
-        steps: u32,
-        scratch: &mut [RowPair],
-    )
-        ensures { Noted compared.now (said self.old) → MarksLive D.Domain.holds compared.now → 272 ≤ length scratch.old → Stepped (first_automaton D.Domain.holds compared.now) (second_automaton D.Domain.holds compared.now) steps (said self.old) (said self.new) }
+    /// Examines up to so many pairs, until the verdict stands.
+    fn examine_up_to<D: Domain>(&mut self, compared: &Compared<D>, steps: u32, slots: &mut RowSlots)
+        ensures { Noted compared.now (view self.old) → MarksLive D.Domain.holds compared.now →
+            SteppedIn D.Domain.holds compared.now steps (view self.old) (view self.new) }
     {
         for _ in 0..steps {
             if let Decision::Examine = decide(self.phase, Event::Step) {
-                self.examine(compared, scratch);
+                self.examine(compared, slots);
             } else {
                 return;
             }
         }
     }
 
-    /// Refuses what keeps two schemas from a step: `symbols`, `foreign`, `ousted`, `schemas`, `steps` or `scratch`.
-    fn permits_step<D>(
+    /// The row pairs for a step, or what keeps two schemas from it: `symbols`, `foreign`, `ousted`,
+    /// `schemas`, `steps` or `scratch`.
+    fn permits_step<'a, D>(
         &self,
         first: &Tested<D>,
         second: &Tested<D>,
         claim: Numbers,
         steps: u32,
-        slots: usize,
-    ) -> Result<(), Refusal>
-        ensures { Refuses (step_kept_from (said self.now) (tables first.now.measured.schema) (tables second.now.measured.schema) claim steps slots) result }
+        scratch: &'a mut [RowPair],
+    ) -> Result<RowSlots<'a>, Refusal>
+        ensures { Refuses
+            (step_kept_from (view self.now) (tables_of first.now) (tables_of second.now) claim steps (length scratch.old))
+            result }
     {
         self.permits_held(first, second, claim)?;
         if steps == 0 || steps > MOST_STEPS {
             return Err(refusal(self, Fault::Steps));
         }
-        if slots < ROW_PAIRS {
-            return Err(Fault::Scratch.at(ROW_PAIRS));
-        }
-        Ok(())
+        RowSlots::new(scratch)
     }
 
-    /// Refuses what keeps two schemas from what the holder of the claim asks: `symbols`, `foreign`, `ousted` or `schemas`.
+    /// Refuses what keeps two schemas from what the holder of the claim asks: `symbols`, `foreign`,
+    /// `ousted` or `schemas`.
     pub(crate) fn permits_held<D>(
         &self,
         first: &Tested<D>,
         second: &Tested<D>,
         claim: Numbers,
     ) -> Result<(), Refusal>
-        ensures { Refuses (held_kept_from (said self.now) (tables first.now.measured.schema) (tables second.now.measured.schema) claim) result }
+        ensures { Refuses
+            (held_kept_from (view self.now) (tables_of first.now) (tables_of second.now) claim)
+            result }
     {
         if first.symbols() != second.symbols() {
             return Err(refusal(self, Fault::Symbols));
         }
-        // no phase refuses a holder's step
-        self.permits_claim(claim, Event::Step)?;
+        self.permits_holder(claim)?;
         if !self.has_noted(first, second) {
             return Err(refusal(self, Fault::Schemas));
         }
@@ -168,7 +177,7 @@ impl Area {
 
     /// Whether the noted counts are those of the two schemas.
     fn has_noted<D>(&self, first: &Tested<D>, second: &Tested<D>) -> bool
-        ensures { result ≡ (self.now.symbols == first.now.measured.schema.symbols && (self.now.pairs.firsts == first.now.measured.schema.states && self.now.pairs.seconds == second.now.measured.schema.states)) }
+        ensures { result ≡ same_counts (view self.now) (tables_of first.now) (tables_of second.now) }
     {
         let same_symbols = self.symbols as usize == first.symbols();
         let same_firsts = self.pairs.firsts() as usize == first.states();
@@ -177,7 +186,8 @@ impl Area {
     }
 
     /// 1 where the verdict stands, and 0 while the area runs.
-    // Two numbers, as docs/area.md has it: the pairs examined, and 1 where the verdict stands or else 0.
+    // Two numbers, as docs/area.md has it: the pairs examined, and 1 where the verdict stands or
+    // else 0.
     fn mark(&self) -> u32
         ensures { result ≡ (if is_running self.now.phase then 0 else 1) }
     {
@@ -188,7 +198,7 @@ impl Area {
 /// Examines up to that many pairs in the order of the list, until the verdict stands: how many it examined, and 1 where the verdict
 /// stands, else 0. The claim is told by its two numbers. Or `size`, `state`, `row`, `domain`, `symbols`, `foreign`, `ousted`, `schemas`,
 /// `steps` or `scratch`, and the area is as it was. The row pairs hold anything afterwards.
-#[tactic(auto, using(crate::proofs::Grown::steps_grown, crate::proofs::Grown::grown_same, crate::proofs::Strangers::step_of_stranger, crate::proofs::Turned::one_stepping, crate::proofs::Views::few_pairs, crate::proofs::Deciding::steps_as_decided))]
+#[tactic(auto, using(crate::proofs::Laws::step_laws))]
 pub fn step<D: Domain>(
     area: &mut Area,
     claim: Numbers,
@@ -197,18 +207,14 @@ pub fn step<D: Domain>(
     steps: u32,
     scratch: &mut [RowPair],
 ) -> Result<(u32, u32), Refusal>
-    ensures outcome { Stepping (tables first.now) (tables second.now) (sets D.Domain.holds first.now) (sets D.Domain.holds second.now) claim steps (length scratch.old) area.old result area.new }
-    ensures grown { StepsGrown }
-    ensures same { GrownSame }
-    ensures stranger { StepOfStranger }
-    ensures one { OneStepping }
-    ensures few { FewPairs }
-    ensures table { StepsAsDecided }
+    ensures outcome { Stepping (tables first.now) (tables second.now) (sets D.Domain.holds first.now)
+        (sets D.Domain.holds second.now) claim steps (length scratch.old) area.old result area.new }
+    ensures laws { StepLaws }
 {
     let (first, second) = Tested::both(first, second)?;
-    area.permits_step(&first, &second, claim, steps, scratch.len())?;
+    let mut slots = area.permits_step(&first, &second, claim, steps, scratch)?;
     let before = area.examined;
-    area.examine_up_to(&Compared::of(&first, &second), steps, scratch);
+    area.examine_up_to(&Compared::of(&first, &second), steps, &mut slots);
     let count = u32::from(area.examined.saturating_sub(before));
     Ok((count, area.mark()))
 }

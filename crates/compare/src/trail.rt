@@ -1,20 +1,18 @@
 //! The trail to the broken pair of a comparison that came out apart.
 ghost use Rattle.std.specs.Prelude.{◌≡◌, ℕ, ◌≤◌, List, length};
-ghost use Rattle.compare.specs.Deciding.{TrailsAsDecided, TrailNotEarly};
+ghost use Rattle.compare.specs.Claims.{less_claim, ComesBack};
+ghost use Rattle.compare.specs.Laws.{TrailLaws};
 ghost use Rattle.compare.specs.Listing.{entries_of};
-ghost use Rattle.compare.specs.Outcomes.{OneTrailing};
-ghost use Rattle.compare.specs.Strangers.{TrailOfStranger};
-ghost use Rattle.compare.specs.Trailing.{Trail, Trailing, TrailWritten, OneTrail, EveryTrail, led_to, broken_index};
-ghost use Rattle.compare.specs.Work.{said};
+ghost use Rattle.compare.specs.Trailing.{Trail, Trailing, TrailWritten, led_to, broken_index};
+ghost use Rattle.compare.specs.View.{view};
 
 use crate::area::Area;
-use crate::claim::ApartClaim;
+use crate::claim::{ConcludedApart, Lease};
 use crate::event::Event;
 use crate::pairs::{Listed, Pairs};
 use refusal::fault::{Fault, Refusal};
 
 /// The pair at an index, where the pair that led to it stands before it.
-// As `found_from` of the search, over pairs of another type: two calls of the library's each.
 pub fn led_to(pairs: &Pairs, index: usize) -> Option<Listed>
     ensures { result ≡ led_to (entries_of pairs.now) index }
 {
@@ -34,7 +32,8 @@ fn trail_length(pairs: &Pairs, index: usize) -> usize
     }
 }
 
-/// Writes the trail of a listed pair at the output's front, where it has room, and gives the place after it.
+/// Writes the trail of a listed pair at the output's front, where it has room, and gives the place
+/// after it.
 fn write_trail(pairs: &Pairs, index: usize, output: &mut [u8]) -> usize
     ensures most { result ≤ index }
     ensures written { TrailWritten (entries_of pairs.now) index output.old result output.new }
@@ -53,7 +52,7 @@ fn write_trail(pairs: &Pairs, index: usize, output: &mut [u8]) -> usize
 
 /// The index of the broken pair: the one that was examined last.
 pub(crate) fn broken_index(area: &Area) -> usize
-    ensures { result ≡ broken_index (said area.now) }
+    ensures { result ≡ broken_index (view area.now) }
 {
     let last = area.examined.saturating_sub(1) as usize;
     if last < area.pairs.length() { last } else { 0 }
@@ -61,19 +60,15 @@ pub(crate) fn broken_index(area: &Area) -> usize
 
 /// Writes the symbols that lead from the pair (0, 0) to the broken pair at the output's front, a byte each, and tells how many. Or `foreign`,
 /// `ousted`, `early` or `room`. The claim comes back either way.
-#[tactic(auto, using(crate::proofs::Trails::one_trail, crate::proofs::Trails::every_trail, crate::proofs::Strangers::trail_of_stranger, crate::proofs::Outcomes::one_trailing, crate::proofs::Deciding::trails_as_decided, crate::proofs::Deciding::trail_not_early))]
-pub fn trail(
+#[tactic(auto, using(crate::proofs::Laws::trail_laws))]
+pub fn trail<S: ConcludedApart>(
     area: &Area,
-    claim: ApartClaim,
+    claim: Lease<S>,
     output: &mut [u8],
-) -> Result<(usize, ApartClaim), (Refusal, ApartClaim)>
-    ensures outcome { Trailing area.now claim output.old result output.new }
-    ensures one { OneTrail }
-    ensures every { EveryTrail }
-    ensures stranger { TrailOfStranger }
-    ensures answer { OneTrailing }
-    ensures table { TrailsAsDecided }
-    ensures early { TrailNotEarly }
+) -> Result<(usize, Lease<S>), (Refusal, Lease<S>)>
+    ensures outcome { Trailing area.now claim.numbers output.old (less_claim result) output.new }
+    ensures back { ComesBack claim result }
+    ensures laws { TrailLaws }
 {
     // no `?`: the claim goes back with the refusal
     if let Err(refusal) = area.permits_claim(claim.numbers(), Event::Write) {

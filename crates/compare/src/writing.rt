@@ -1,7 +1,9 @@
-//! What writing a document asks of an area: whether the claim's holder may have one, and the broken pair that it is of.
-ghost use Rattle.schema.specs.Tables.{tables};
-ghost use Rattle.compare.specs.Refusals.{Refuses};
-ghost use Rattle.compare.specs.Work.{said};
+//! What writing a document asks of an area: whether the claim's holder may have one, and the broken
+//! pair that it is of.
+ghost use Rattle.std.specs.Prelude.{length};
+ghost use Rattle.refusal.specs.Order.{Refuses};
+ghost use Rattle.schema.specs.Meaning.{tables_of};
+ghost use Rattle.compare.specs.View.{view};
 ghost use Rattle.compare.specs.Writing.{write_kept_from, BrokenOf};
 
 use crate::area::Area;
@@ -10,11 +12,13 @@ use crate::event::Event;
 use crate::pairs::Pairs;
 use crate::phase::{Kind, Phase};
 use crate::trail::broken_index;
-use refusal::fault::{Fault, Refusal};
+use refusal::fault::Refusal;
 use schema::tested::Tested;
-use search::pairs::ROW_PAIRS;
+use search::pairs::RowPair;
+use search::slots::RowSlots;
 
-/// The broken pair of a comparison that came out apart: the list that it stands in, its index there, and how it is broken.
+/// The broken pair of a comparison that came out apart: the list that it stands in, its index
+/// there, and how it is broken.
 #[derive(Clone, Copy)]
 pub struct BrokenPair<'a> {
     pub pairs: &'a Pairs,
@@ -22,22 +26,22 @@ pub struct BrokenPair<'a> {
     pub kind: Kind,
 }
 
-/// Refuses what keeps two schemas from a document of the claim: `symbols`, `foreign`, `ousted`, `schemas`, `early` or `scratch`.
-pub fn permits_write<D>(
+/// The row pairs for a document of the claim, or what keeps two schemas from it: `symbols`, `foreign`, `ousted`, `schemas`, `early` or
+/// `scratch`.
+pub fn permits_write<'a, D>(
     area: &Area,
     first: &Tested<D>,
     second: &Tested<D>,
     claim: Numbers,
-    slots: usize,
-) -> Result<(), Refusal>
-    ensures { Refuses (write_kept_from (said area.now) (tables first.now.measured.schema) (tables second.now.measured.schema) claim slots) result }
+    scratch: &'a mut [RowPair],
+) -> Result<RowSlots<'a>, Refusal>
+    ensures { Refuses
+        (write_kept_from (view area.now) (tables_of first.now) (tables_of second.now) claim (length scratch.old))
+        result }
 {
     area.permits_held(first, second, claim)?;
     area.permits(Event::Write)?;
-    if slots < ROW_PAIRS {
-        return Err(Fault::Scratch.at(ROW_PAIRS));
-    }
-    Ok(())
+    RowSlots::new(scratch)
 }
 
 /// The broken pair, where the area is apart.

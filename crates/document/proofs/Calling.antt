@@ -1,5 +1,5 @@
 -- What the tests of the call tell, and the area's document as the climb finds it. Assumes nothing.
-use Rattle.std.proofs.Common.{◌≡◌, ℕ, ◌+◌, ◌<◌, ◌≤◌, Bool, Bor, List, [], ◌∷◌, length, Some, None, Ok, Err, Option, Result, sym, refl, ap, ◌∙◌, subst}
+use Rattle.std.proofs.Common.{◌≡◌, ℕ, ◌+◌, ◌<◌, ◌≤◌, Bool, Bor, List, [], length, Some, None, Ok, Err, Option, Result, sym, refl, ap, ◌∙◌, subst}
 use Rattle.std.specs.Option.{ok_or}
 use Rattle.std.proofs.lemmas.Bool.{and_parts, eqb-true, ltb-false, not-false}
 use Rattle.std.proofs.lemmas.Option.{none-some}
@@ -20,12 +20,11 @@ use Rattle.compare.specs.declared.pairs.Pairs.{Pairs}
 use Rattle.compare.specs.declared.phase.Kind.{Kind}
 use Rattle.compare.specs.declared.writing.BrokenPair.{BrokenPair}
 use Rattle.compare.specs.Listing.{entries_of}
-use Rattle.compare.specs.Refusals.{other_symbols, of_another, not_held, other_counts, phase_refuses, short_scratch}
+use Rattle.compare.specs.Refusals.{other_counts, phase_refuses, short_scratch, held_kept_from}
 use Rattle.compare.specs.Trailing.{broken_index}
 use Rattle.compare.specs.Work.{Work, said}
 use Rattle.compare.specs.Writing.{write_kept_from, BrokenOf}
-use Rattle.compare.proofs.Allowing.{fails}
-use Rattle.compare.proofs.Tests.{found_early}
+use Rattle.compare.proofs.Allowing.{fails, held_allows}
 use Rattle.document.specs.declared.level.Spot.{Spot}
 use Rattle.document.specs.declared.samples.Samples.{Samples as Kept}
 use Rattle.document.specs.declared.sheet.Sheet.{Sheet}
@@ -52,21 +51,14 @@ err_none (Some x) e y is = absurd (cc)
 err_none None e y is = (refl, cc)
 
 module _ (w : Work) (T U : Tables) (claim : Numbers) (slots levels : ℕ) where
-  -- the tests of the area, which come before that of the levels
-  abbrev tests : List (Option Refusal)
-  tests = other_symbols w T U ∷ of_another w claim.area ∷ not_held w claim.serial ∷ other_counts w T U ∷ phase_refuses w Write ∷ short_scratch slots ∷ []
-
-  pub kept_early : (e : Refusal) → write_kept_from w T U claim slots ≡ Some e → kept_from w T U claim slots levels ≡ Some e
-  kept_early e is = found_early tests (short_levels levels ∷ []) e is
-
   -- where nothing is refused the counts are those noted, and what is lent suffices
   pub allowed_by : kept_from w T U claim slots levels ≡ None → (other_counts w T U ≡ None) × (272 ≤ slots) × (4160 ≤ levels)
   allowed_by none =
-      let two = (first_none (of_another w claim.area) _ (first_none (other_symbols w T U) _ none).1).1 in
-      let counts = first_none (other_counts w T U) _ (first_none (not_held w claim.serial) _ two).1 in
-      let lent = first_none (short_scratch slots) _ (first_none (phase_refuses w Write) _ counts.1).1 in
-      let last = first_none (short_levels levels) [] lent.1 in
-      (counts.0, ltb-false slots 272 (fails _ _ lent.0), ltb-false levels 4160 (fails _ _ last.0))
+      let write = first_none (write_kept_from w T U claim slots) _ none in
+      let held = first_none (held_kept_from w T U claim) _ write.0 in
+      let lent = first_none (short_scratch slots) [] (first_none (phase_refuses w Write) _ held.1).1 in
+      let last = first_none (short_levels levels) [] write.1 in
+      ((held_allows w T U claim held.0).1, ltb-false slots 272 (fails _ _ lent.0), ltb-false levels 4160 (fails _ _ last.0))
 
 -- the state counts noted are those of the schemas
 pub counts_of : (w : Work) (T U : Tables) → other_counts w T U ≡ None → (w.firsts ≡ T.states) × (w.seconds ≡ U.states)

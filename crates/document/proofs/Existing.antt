@@ -21,7 +21,7 @@ use Rattle.compare.specs.declared.phase.Kind.TheVariants.{Value, Content}
 use Rattle.compare.specs.Breaking.{Broken}
 use Rattle.compare.specs.Growing.{Path, Reached}
 use Rattle.compare.specs.Trailing.{led_to, with_parent_before}
-use Rattle.compare.specs.Work.{start}
+use Rattle.compare.specs.Pairs.{start}
 use Rattle.compare.proofs.Trails.{one_trail, trail_parent}
 use Rattle.document.specs.Documents.{Climbs, OnWay, LeadsTo, Built, HasDocument}
 use Rattle.document.specs.Forks.{joined}

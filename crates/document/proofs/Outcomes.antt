@@ -1,8 +1,7 @@
 -- The call has one outcome; and with numbers that are not the holder's it is refused. Assumes nothing.
-use Rattle.std.proofs.Common.{◌≡◌, ℕ, ◌+◌, ◌<◌, Bool, true, false, cond, not, ◌&&◌, eqb, ◌⊎◌, List, [], ◌∷◌, length, Some, None, Ok, Err, Option, Result, sym, refl, ap, ◌∙◌, ⊎_elim, arith}
-use Rattle.std.proofs.lemmas.Bool.{both_ways}
+use Rattle.std.proofs.Common.{◌≡◌, ℕ, ◌+◌, ◌<◌, ◌⊎◌, List, [], ◌∷◌, length, Some, Ok, Err, Option, Result, sym, ap, ◌∙◌, ⊎_elim, arith}
 use Rattle.std.proofs.lemmas.Option.{none-some, same_Some}
-use Rattle.refusal.specs.declared.fault.Fault.TheVariants.{Foreign, Ousted, Room}
+use Rattle.refusal.specs.declared.fault.Fault.TheVariants.{Room}
 use Rattle.refusal.specs.declared.fault.Refusal.{Refusal}
 use Rattle.refusal.specs.Order.{first_of}
 use Rattle.codec.specs.Encoding.{tree_bytes}
@@ -11,13 +10,14 @@ use Rattle.codec.specs.Trees.{Tree}
 use Rattle.schema.specs.Automata.{Automaton}
 use Rattle.schema.specs.Faults.{either_fault}
 use Rattle.schema.specs.Tables.{automaton}
-use Rattle.compare.specs.declared.claim.Numbers.{Numbers}
-use Rattle.compare.specs.declared.event.Event.TheVariants.{Write}
-use Rattle.compare.specs.Refusals.{where_found, other_symbols, of_another, not_held, other_counts, phase_refuses, short_scratch}
-use Rattle.compare.specs.Strangers.{is_holder, stranger}
-use Rattle.compare.specs.Work.{Work, said, held_by}
+use Rattle.compare.specs.Refusals.{other_symbols, held_kept_from}
+use Rattle.compare.specs.Strangers.{stranger}
+use Rattle.compare.specs.Work.{Work, said}
+use Rattle.compare.specs.Writing.{write_kept_from}
+use Rattle.compare.proofs.Strangers.{found_within, found_third, some_found}
+use Rattle.compare.proofs.Tests.{held_refused}
 use Rattle.document.specs.Seeds.{needed}
-use Rattle.document.specs.Writing.{short_levels, early_refusal, Found, DocumentAnswer, OneDocumenting, DocumentOfStranger}
+use Rattle.document.specs.Writing.{kept_from, early_refusal, Found, DocumentAnswer, OneDocumenting, DocumentOfStranger}
 use Rattle.document.proofs.Unique.{found_or_not, one_found}
 
 module _ (A B : Automaton) (w : Work) (output : List ℕ) where
@@ -66,29 +66,14 @@ one_documenting T U sets others claim slots levels a output r s one other p q =
     q)
     p
 
--- the first refusal of numbers that are not the holder's
-strange : (w : Work) (n : Numbers) (o p : Option Refusal) (rest : List (Option Refusal)) → is_holder w n ≡ false → first_of (o ∷ first_of (p ∷ of_another w n.area ∷ not_held w n.serial ∷ rest) ∷ []) ≡ first_of (o ∷ p ∷ Some (stranger w n) ∷ [])
-strange w n o p rest other = by o p (eqb n.area w.number) (held_by w n.serial) other
-  where
-    by : (o p : Option Refusal) (s h : Bool) → (s && h) ≡ false → first_of (o ∷ first_of (p ∷ where_found (not s) w Foreign ∷ where_found (not h) w Ousted ∷ rest) ∷ []) ≡ first_of (o ∷ p ∷ Some (record { fault = cond s Ousted Foreign; place = w.serial }) ∷ [])
-    by (Some e) p s h other = refl
-    by None (Some e) s h other = refl
-    by None None true true other = absurd (both_ways true other refl)
-    by None None true false other = refl
-    by None None false h other = refl
-
--- and there is one
-some_strange : (o p : Option Refusal) (x : Refusal) → first_of (o ∷ p ∷ Some x ∷ []) ≡ None → ⊥
-some_strange (Some e) p x none = none-some _ (sym none)
-some_strange None (Some e) x none = none-some _ (sym none)
-some_strange None None x none = none-some _ (sym none)
-
 pub document_of_stranger : DocumentOfStranger
 unfolding DocumentOfStranger
 document_of_stranger T U sets others claim slots levels a output r output' does other =
     let w = said a in
-    let same : early_refusal w T U claim slots levels ≡ first_of (either_fault T U ∷ other_symbols w T U ∷ Some (stranger w claim) ∷ []) = strange w claim (either_fault T U) (other_symbols w T U) (other_counts w T U ∷ phase_refuses w Write ∷ short_scratch slots ∷ short_levels levels ∷ []) other in
+    let found = λ (p q : Option Refusal) (rest : List (Option Refusal)) (is : q ≡ first_of (p ∷ Some (stranger w claim) ∷ [])). found_within p q (stranger w claim) rest is in
+    let write : write_kept_from w T U claim slots ≡ first_of (other_symbols w T U ∷ Some (stranger w claim) ∷ []) = found (other_symbols w T U) (held_kept_from w T U claim) _ (held_refused w claim T U other) in
+    let same : early_refusal w T U claim slots levels ≡ first_of (either_fault T U ∷ other_symbols w T U ∷ Some (stranger w claim) ∷ []) = found_third (either_fault T U) (other_symbols w T U) (kept_from w T U claim slots levels) (stranger w claim) (found (other_symbols w T U) (write_kept_from w T U claim slots) _ write) in
     ⊎_elim
     (λ refused. (refused.0, refused.2, sym same ∙ refused.1, refused.3))
-    (λ answer. absurd (some_strange (either_fault T U) (other_symbols w T U) (stranger w claim) (sym same ∙ answer.0)))
+    (λ answer. absurd (some_found (either_fault T U) (other_symbols w T U) (stranger w claim) (sym same ∙ answer.0)))
     does

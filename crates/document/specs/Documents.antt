@@ -12,7 +12,7 @@ use Rattle.compare.specs.declared.phase.Kind.{Kind}
 use Rattle.compare.specs.declared.phase.Kind.TheVariants.{Value, Content}
 use Rattle.compare.specs.Breaking.{Broken}
 use Rattle.compare.specs.Growing.{Reached}
-use Rattle.compare.specs.Work.{start}
+use Rattle.compare.specs.Pairs.{start}
 use Rattle.document.specs.Samples.{SampleSequence, Samples}
 
 -- from an entry along its parents to the first one: the entries on the way but for the first, the last one first

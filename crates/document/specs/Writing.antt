@@ -11,14 +11,14 @@ use Rattle.schema.specs.Faults.{either_fault}
 use Rattle.schema.specs.Tables.{Tables, automaton}
 use Rattle.compare.specs.declared.area.Area.{Area}
 use Rattle.compare.specs.declared.claim.Numbers.{Numbers}
-use Rattle.compare.specs.declared.event.Event.TheVariants.{Write}
 use Rattle.compare.specs.declared.pairs.Listed.{Listed}
 use Rattle.compare.specs.declared.phase.Kind.{Kind}
 use Rattle.compare.specs.declared.phase.Phase.TheVariants as phase
-use Rattle.compare.specs.Refusals.{other_symbols, of_another, not_held, other_counts, phase_refuses, short_scratch}
+use Rattle.compare.specs.Refusals.{other_symbols}
 use Rattle.compare.specs.Strangers.{is_holder, stranger}
 use Rattle.compare.specs.Trailing.{broken_index}
 use Rattle.compare.specs.Work.{Work, said}
+use Rattle.compare.specs.Writing.{write_kept_from}
 use Rattle.document.specs.Documents.{DocumentOf}
 use Rattle.document.specs.Seeds.{needed}
 
@@ -28,7 +28,7 @@ short_levels levels = cond (nat_lt levels 4160) (Some (record { fault = Scratch;
 
 -- what keeps sound schemas from a document of the claim with these numbers, which lends so many row pairs and levels
 abbrev pub kept_from : Work → Tables → Tables → Numbers → ℕ → ℕ → Option Refusal
-kept_from w T U claim slots levels = first_of (other_symbols w T U ∷ of_another w claim.area ∷ not_held w claim.serial ∷ other_counts w T U ∷ phase_refuses w Write ∷ short_scratch slots ∷ short_levels levels ∷ [])
+kept_from w T U claim slots levels = first_of (write_kept_from w T U claim slots ∷ short_levels levels ∷ [])
 
 -- the refusal before any document is looked for, in the order of the tests
 abbrev pub early_refusal : Work → Tables → Tables → Numbers → ℕ → ℕ → Option Refusal

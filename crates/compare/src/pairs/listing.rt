@@ -1,44 +1,35 @@
 //! Listing pairs of states: each once, behind the one that led to it.
 ghost use Rattle.std.specs.Prelude.{◌≡◌, min, [], length};
 ghost use Rattle.std.specs.List.{slice_get};
-ghost use Rattle.compare.specs.Listing.{entries_of, FewPairs, EntriesFit, ListedOnce, Determined};
+ghost use Rattle.compare.specs.Laws.{ListLaws};
+ghost use Rattle.compare.specs.Listing.{entries_of};
 ghost use Rattle.compare.specs.Pairs.{listed, fits, after_listing};
 
-use crate::pairs::{Listed, PLACES, Pairs};
+use crate::pairs::{Listed, PLACES, Pairs, START};
 use bits::sets::{has_member, with_member};
 use schema::tables::STATES;
 
-/// A slot without an entry.
-const BLANK: Listed = Listed {
-    first: 0,
-    second: 0,
-    parent: 0,
-    symbol: 0,
-};
-
 impl Pairs {
-    /// The list without entries, for two state counts; a count past 64 is taken for 64.
+    /// The list without entries, for two state counts; a count past STATES is taken for STATES.
     pub fn blank(firsts: u8, seconds: u8) -> Pairs
-        ensures firsts { result.firsts ≡ min firsts 64 }
-        ensures seconds { result.seconds ≡ min seconds 64 }
+        ensures firsts { result.firsts ≡ min firsts STATES }
+        ensures seconds { result.seconds ≡ min seconds STATES }
         ensures none { entries_of result ≡ [] }
     {
         Pairs {
             firsts: firsts.min(STATES as u8),
             seconds: seconds.min(STATES as u8),
-            entries: [BLANK; PLACES],
+            entries: [START; PLACES],
             length: 0,
             bits: [0; STATES],
         }
     }
 
-    /// Forgets everything and notes two state counts; a count past 64 is taken for 64.
-    #[tactic(auto, using(crate::proofs::Views::determined))]
+    /// Forgets everything and notes two state counts; a count past STATES is taken for STATES.
     pub fn begin(&mut self, firsts: u8, seconds: u8)
-        ensures firsts { self.new.firsts ≡ min firsts 64 }
-        ensures seconds { self.new.seconds ≡ min seconds 64 }
+        ensures firsts { self.new.firsts ≡ min firsts STATES }
+        ensures seconds { self.new.seconds ≡ min seconds STATES }
         ensures none { entries_of self.new ≡ [] }
-        ensures determined { Determined }
     {
         *self = Pairs::blank(firsts, seconds);
     }
@@ -58,22 +49,24 @@ impl Pairs {
     }
 
     /// How many pairs are listed.
-    #[tactic(auto, using(crate::proofs::Views::many_of, crate::proofs::Views::few_pairs))]
+    #[tactic(auto, using(crate::proofs::Views::many_of))]
     pub fn length(&self) -> usize
-        ensures count { result ≡ length (entries_of self.now) }
-        ensures few { FewPairs }
+        ensures { result ≡ length (entries_of self.now) }
     {
         self.length
     }
 
     /// The pair at an index, the first listed at 0.
-    #[tactic(auto, using(crate::proofs::Views::entries_fit, crate::proofs::Views::listed_once))]
+    #[tactic(auto, using(crate::proofs::Laws::list_laws))]
     pub fn entry(&self, index: usize) -> Option<Listed>
         ensures answer { result ≡ slice_get (entries_of self.now) index }
-        ensures fit { EntriesFit }
-        ensures once { ListedOnce }
+        ensures laws { ListLaws }
     {
-        self.entries[..self.length].get(index).copied()
+        if index < self.length {
+            self.entries.get(index).copied()
+        } else {
+            None
+        }
     }
 
     /// Whether a pair with these two states is listed.
@@ -84,7 +77,8 @@ impl Pairs {
         row < STATES && has_member(self.bits[row], second)
     }
 
-    /// Whether the pair can stand behind the others: its states lie inside the counts, and the pair that led to it is listed, or none is yet.
+    /// Whether the pair can stand behind the others: its states lie inside the counts, and the pair
+    /// that led to it is listed, or none is yet.
     fn can_stand(&self, pair: Listed) -> bool
         ensures { result ≡ fits self.now.firsts self.now.seconds self.now.length pair }
     {
@@ -93,9 +87,11 @@ impl Pairs {
             && (self.length == 0 || (pair.parent as usize) < self.length)
     }
 
-    /// Puts the pair behind the others, unless its two states are listed already or it cannot stand there.
+    /// Puts the pair behind the others, unless its two states are listed already or it cannot stand
+    /// there.
     pub fn list(&mut self, pair: Listed)
-        ensures entries { entries_of self.new ≡ after_listing self.old.firsts self.old.seconds (entries_of self.old) pair }
+        ensures entries { entries_of self.new ≡
+            after_listing self.old.firsts self.old.seconds (entries_of self.old) pair }
         ensures firsts { self.new.firsts ≡ self.old.firsts }
         ensures seconds { self.new.seconds ≡ self.old.seconds }
     {

@@ -4,17 +4,17 @@ use Rattle.std.proofs.lemmas.Option.{slice_get_within}
 use Rattle.compare.specs.declared.area.Area.{Area}
 use Rattle.compare.specs.Listing.{entries_of}
 use Rattle.compare.specs.Schemas.{StatePair}
-use Rattle.compare.specs.Work.{Work, said}
+use Rattle.compare.specs.View.{View, view}
 use Rattle.compare.proofs.Views.{entries_fit}
 use Rattle.compare.proofs.area.Area.examine.Goals as goal
 use Rattle.compare.proofs.area.Area.examine.Goals.{in-Some-broken, in_default-broken}
 
 -- the area with another count of examined pairs
-abbrev counted : ℕ → Work → Work
+abbrev counted : ℕ → View → View
 counted n w = record { number = w.number; serial = w.serial; phase = w.phase; symbols = w.symbols; firsts = w.firsts; seconds = w.seconds; pairs = w.pairs; examined = n }
 
 pub returns : goal.returns
-returns g c = λ noted mask room.
+returns g c = λ noted mask.
     let area = c.args.self.now in
     let pair = c.in-Some.pair in
     let at = sym c.entry.ensures.answer ∙ c.in-Some.is in
@@ -25,9 +25,9 @@ returns g c = λ noted mask room.
       pair = pair;
       at = at;
       outcome = elim c.match-broken.branch [
-        | in-Some-broken w ↦ inl (w.in-Some-broken.kind, w.in-Some-broken.ensures.answer inside mask room, ap (λ (x : Area). counted (area.examined + 1) (said x)) w.self-is)
+        | in-Some-broken w ↦ inl (w.in-Some-broken.kind, w.in-Some-broken.ensures.answer inside mask, ap (λ (x : Area). counted (area.examined + 1) (view x)) w.self-is)
         | in_default-broken w ↦
             let on = w.go_on.ensures noted mask inside left in
-            inr (w.in_default-broken.ensures.answer inside mask room, (on.live, on.exact, ap (λ (x : Area). counted (area.examined + 1) (said x)) w.self-is ∙ ap (counted (area.examined + 1)) on.after))
+            inr (w.in_default-broken.ensures.answer inside mask, (on.live, on.exact, ap (λ (x : Area). counted (area.examined + 1) (view x)) w.self-is ∙ ap (counted (area.examined + 1)) on.after))
       ];
     })

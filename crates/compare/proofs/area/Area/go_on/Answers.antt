@@ -5,9 +5,9 @@ use Rattle.schema.specs.Permitted.{permit}
 use Rattle.schema.specs.Tables.{tables, sets}
 use Rattle.schema.proofs.Permits.{permit_all}
 use Rattle.schema.proofs.Sizes.{sized}
-use Rattle.compare.specs.Schemas.{first_automaton, second_automaton}
+use Rattle.schema.specs.Meaning.{meaning}
 use Rattle.compare.specs.Stepping.{with_nexts, going_on}
-use Rattle.compare.specs.Work.{said}
+use Rattle.compare.specs.View.{view}
 use Rattle.compare.proofs.Goings.{none_left, one_left, live_same}
 use Rattle.compare.proofs.area.Area.go_on.Goals as goal
 use Rattle.compare.proofs.area.Area.go_on.Goals.{then-place-length, else-place-length}
@@ -16,17 +16,17 @@ pub returns : goal.returns
 returns g c = λ noted mask at led.
     let compared = c.args.compared.now in
     let s = compared.first.now.measured.schema in
-    let A = first_automaton g.D.Domain.holds compared in
-    let B = second_automaton g.D.Domain.holds compared in
-    let w = said c.args.self.now in
+    let A = meaning g.D.Domain.holds compared.first.now in
+    let B = meaning g.D.Domain.holds compared.second.now in
+    let w = view c.args.self.now in
     let live = bit c.live_symbols-symbols.result in
     let p = c.args.pair.first in
     let q = c.args.pair.second in
     let i = c.args.place in
     let told = c.list_nexts.ensures in
-    let es = told.entries noted.firsts noted.seconds at led ∙ ap (λ (n : ℕ). with_nexts A B live p q i n w.pairs) (sym noted.symbols) in
+    let es = told.entries (record { firsts = noted.firsts; seconds = noted.seconds }) at led ∙ ap (λ (n : ℕ). with_nexts A B live p q i n w.pairs) (sym noted.symbols) in
     let all = permit_all (tables s) (sets g.D.Domain.holds s) (omega (arith, (sized (tables s) compared.first.now.measured.sized).symbols.to)) in
-    let long = c.length.ensures.count ∙ ap length es in
+    let long = c.length.ensures ∙ ap length es in
     let listed = with_nexts A B live p q i w.symbols w.pairs in
     let phase : c.if-place-length.self ≡ going_on (i + 1) listed = elim c.if-place-length.branch [
       | then-place-length w ↦ w.self-is ∙ none_left (i + 1) c.length.result listed long w.if-place-length.true

@@ -1,39 +1,20 @@
--- Where no gap was found and no content is broken, neither way is; two theorems at each return. Assumes nothing.
+-- Where no gap was found and no content is broken, neither way is. Assumes nothing.
 use Rattle.std.proofs.Common.{ltb, sym, ⊎_elim}
 use Rattle.std.proofs.lemmas.Bool.{and_parts, both_ways, cases_Bool, ltb-true}
 use Rattle.schema.specs.Automata.{allowed}
-use Rattle.compare.specs.Schemas.{first_automaton, second_automaton}
+use Rattle.schema.specs.Meaning.{meaning}
 use Rattle.compare.proofs.Gaps.{gap_none}
-use Rattle.compare.proofs.Telling.{onward_tells, unbroken_onward}
 use Rattle.compare.proofs.compared.Compared.broken.Goals as goal
 
 pub returns-clause-answer : goal.returns-clause-answer
-returns-clause-answer g c = λ there mask room.
-    let A = first_automaton g.D.Domain.holds c.args.self.now in
-    let B = second_automaton g.D.Domain.holds c.args.self.now in
+returns-clause-answer g c = λ there mask.
+    let A = meaning g.D.Domain.holds c.args.self.now.first.now in
+    let B = meaning g.D.Domain.holds c.args.self.now.second.now in
     record {
       values = gap_none (A.has c.args.p) (B.has c.args.q) c.gap.result (λ v has. ltb-true v 4294967296 (and_parts (ltb v 4294967296) _ has).0) c.gap.ensures (sym c.if-is_some.ensures);
       contents = λ w live.
           ⊎_elim
           (λ may. may)
-          (λ refused. absurd (both_ways c.is_content_broken.result c.if-is_content_broken.false ((c.is_content_broken.ensures there mask room).1 (w, live, refused))))
+          (λ refused. absurd (both_ways c.is_content_broken.result c.if-is_content_broken.false ((c.is_content_broken.ensures there mask).1 (w, live, refused))))
           (cases_Bool (allowed B c.args.q w));
     }
-
-pub returns-then-is_some-clause-onward : goal.returns-then-is_some-clause-onward
-returns-then-is_some-clause-onward g c = onward_tells
-
-pub returns-then-is_some-clause-next : goal.returns-then-is_some-clause-next
-returns-then-is_some-clause-next g c = unbroken_onward
-
-pub returns-then-is_content_broken-clause-onward : goal.returns-then-is_content_broken-clause-onward
-returns-then-is_content_broken-clause-onward g c = onward_tells
-
-pub returns-then-is_content_broken-clause-next : goal.returns-then-is_content_broken-clause-next
-returns-then-is_content_broken-clause-next g c = unbroken_onward
-
-pub returns-clause-onward : goal.returns-clause-onward
-returns-clause-onward g c = onward_tells
-
-pub returns-clause-next : goal.returns-clause-next
-returns-clause-next g c = unbroken_onward
