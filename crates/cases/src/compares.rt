@@ -1,7 +1,8 @@
-//! Cases on comparing: `open AREA NUMBER`, which names an area for the cases after it, and the calls on it. A claim stays in its place, by
-//! number, for the cases after the one that gave it: `take AREA PLACE FIRST SECOND`, `oust AREA PLACE FIRST SECOND`,
-//! `step AREA NUMBER SERIAL FIRST SECOND STEPS PAIRS`, `conclude AREA PLACE`, `trail AREA PLACE LENGTH`, `giveup AREA PLACE`, and the case on
-//! documents.
+//! Cases on comparing: `open AREA NUMBER`, which names an area for the cases after it, and calls
+//! on it. A claim stays in its place, by number, for the cases after the one that gave it:
+//! `take AREA PLACE FIRST SECOND`, `oust AREA PLACE FIRST SECOND`,
+//! `step AREA NUMBER SERIAL FIRST SECOND STEPS PAIRS`, `conclude AREA PLACE`,
+//! `trail AREA PLACE LENGTH`, `giveup AREA PLACE`, and the case on documents.
 use crate::claims::spend;
 use crate::documents::Document;
 use crate::reply::Reply;

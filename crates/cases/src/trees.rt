@@ -1,5 +1,5 @@
-//! Cases on schemas: `schema NAME KIND TABLES`, which names one for the cases after it, and then what is asked of it, as
-//! `check NAME BYTES LEVELS` and `live NAME`.
+//! Cases on schemas: `schema NAME KIND TABLES`, which names one for the cases after it, and then
+//! what is asked of it, as `check NAME BYTES LEVELS` and `live NAME`.
 use crate::answer::Answer;
 use crate::domains::Book;
 use api::{Area, Coverage, Cursor, Domain, Keywords, Level, Refusal, Schema};

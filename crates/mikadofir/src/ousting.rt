@@ -1,5 +1,6 @@
-//! What a maker's book may hold against what an engine can set, and then, before that is decided, against what another can set, in one area:
-//! `book NAME TABLES` and `engine NAME TABLES`, each in force until the next, and `oust NAME TABLES`, the other engine.
+//! What a maker's book may hold against what an engine can set, and then, before that is decided,
+//! against what another can set, in one area: `book NAME TABLES` and `engine NAME TABLES`, each in
+//! force until the next, and `oust NAME TABLES`, the other engine.
 use crate::answers::{Answer, Stepped, Written};
 use crate::claims::given_up;
 use crate::domains::Book;

@@ -67,7 +67,8 @@ impl<'a> Words<'a> {
     pub fn bytes(&mut self) -> Result<Vec<u8>, Trouble<'a>>
         ensures { Takes self.old.left self.new.left ListOf result }
     {
-        list(self.heap, self.word()?)
+        let word = self.word()?;
+        list(self.heap, word)
     }
 }
 

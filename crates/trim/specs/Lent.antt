@@ -20,7 +20,9 @@ module _ {D : Type 0} (t : Trimming D) (q : ℕ) (out : Outputs) where
   -- the lines of a state have room at their places
   pub record LinesFit : Type 0 where
     pub inside : q < (old_tables t).states
-    pub transitions : new_number_of t q * (old_tables t).symbols + (old_tables t).symbols ≤ length out.transitions
+    pub transitions :
+        new_number_of t q * (old_tables t).symbols + (old_tables t).symbols
+        ≤ length out.transitions
     pub state : STATE_BYTES * new_number_of t q + STATE_BYTES ≤ length out.state_table
     pub rows :
         rows_before_of t q * ((old_tables t).symbols + 1) + length (row_lines_of t q)
