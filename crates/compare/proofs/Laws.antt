@@ -1,4 +1,5 @@
 -- The laws that stand on the contracts of the calls. Assumes nothing.
+use Rattle.std.proofs.Common.{refl}
 use Rattle.compare.specs.declared.event.Event.TheVariants.{Take, Oust}
 use Rattle.compare.specs.Laws.{ListLaws, PairLaws, BeginLaws, StepLaws, ConcludeLaws, TrailLaws, GiveUpLaws}
 use Rattle.compare.proofs.Closed.{closed_carries}
@@ -12,19 +13,19 @@ use Rattle.compare.proofs.Turned.{one_stepping}
 use Rattle.compare.proofs.Views.{few_pairs, entries_fit, listed_once, determined}
 
 pub list_laws : ListLaws
-list_laws = record { few = few_pairs; fit = entries_fit; once = listed_once; determined = determined }
+list_laws = record { few = few_pairs; fit = entries_fit; once = listed_once; determined = determined; places = refl }
 
 pub pair_laws : PairLaws
 pair_laws = record { carries = closed_carries; tells = broken_tells; onward = onward_tells; next = unbroken_onward }
 
 pub take_laws : BeginLaws Take
-take_laws = record { invariant = invariant_begins; one = one_beginning; table = takes_as_decided }
+take_laws = record { invariant = invariant_begins; one = one_beginning; table = takes_as_decided; last_serial = refl }
 
 pub oust_laws : BeginLaws Oust
-oust_laws = record { invariant = invariant_begins; one = one_beginning; table = ousts_as_decided }
+oust_laws = record { invariant = invariant_begins; one = one_beginning; table = ousts_as_decided; last_serial = refl }
 
 pub step_laws : StepLaws
-step_laws = record { invariant = invariant_steps; same = invariant_same; not_holder = step_by_not_holder; one = one_stepping; few = few_pairs; table = steps_as_decided }
+step_laws = record { invariant = invariant_steps; same = invariant_same; not_holder = step_by_not_holder; one = one_stepping; few = few_pairs; table = steps_as_decided; most_steps = refl }
 
 pub conclude_laws : ConcludeLaws
 conclude_laws = record { invariant = invariant_concludes; included = included_carries; apart = apart_tells; not_holder = conclusion_by_not_holder; one = one_conclusion; table = concludes_as_decided; early = conclusion_early }

@@ -15,7 +15,7 @@ use Rattle.compare.specs.declared.event.Event.TheVariants.{Conclude, Write}
 use Rattle.compare.specs.Concluding.{claim_refusal, Conclusion, GivingUp}
 use Rattle.compare.specs.Refusals.{other_symbols, phase_refuses, where_found, held_kept_from}
 use Rattle.compare.specs.Stepping.{step_kept_from, step_refusal, Stepping}
-use Rattle.compare.specs.NotHolder.{is_holder, refusal_of_not_holder, StepByNotHolder, ConclusionByNotHolder, TrailByNotHolder, GivingUpByNotHolder}
+use Rattle.compare.specs.NotHolder.{is_holder, refusal_of_not_holder, refusal_with_schemas, StepByNotHolder, ConclusionByNotHolder, TrailByNotHolder, GivingUpByNotHolder}
 use Rattle.compare.specs.Trailing.{no_room, trail_refusal, TrailAnswer}
 use Rattle.compare.specs.View.{View, view, held_by}
 use Rattle.compare.proofs.Tests.{holder_refused, held_refused}
@@ -54,10 +54,10 @@ step_by_not_holder T U sets others claim n slots a r a' is other = by r is
     w : View
     w = view a
 
-    same : step_refusal w T U claim n slots ≡ first_of (either_fault T U ∷ other_symbols w T U ∷ Some (refusal_of_not_holder w claim) ∷ [])
+    same : step_refusal w T U claim n slots ≡ refusal_with_schemas w T U claim
     same = found_third (either_fault T U) (other_symbols w T U) (step_kept_from w T U claim n slots) (refusal_of_not_holder w claim) (found_within (other_symbols w T U) (held_kept_from w T U claim) (refusal_of_not_holder w claim) _ (held_refused w claim T U other))
 
-    by : (r : Result (ℕ × ℕ) Refusal) → Stepping T U sets others claim n slots a r a' → (e : Refusal) × (r ≡ Err e) × (first_of (either_fault T U ∷ other_symbols w T U ∷ Some (refusal_of_not_holder w claim) ∷ []) ≡ Some e) × (a' ≡ a)
+    by : (r : Result (ℕ × ℕ) Refusal) → Stepping T U sets others claim n slots a r a' → (e : Refusal) × (r ≡ Err e) × (refusal_with_schemas w T U claim ≡ Some e) × (a' ≡ a)
     by (Ok answer) is = absurd (some_found (either_fault T U) (other_symbols w T U) (refusal_of_not_holder w claim) (sym same ∙ is.0))
     by (Err e) is = (e, refl, sym same ∙ is.0, is.1)
 

@@ -114,11 +114,14 @@ unfoldable pub InvariantConcludes : Type 0
 InvariantConcludes =
     (A B : Automaton) (a : Area) (claim : Lease Comparing)
     (k : Kind) (n : ℕ) (apart : Lease Apart) (a' : Area)
-    → Conclusion a claim (Ok (concluded.Apart k n apart)) a' → Invariant A B (view a) → Invariant A B (view a')
+    → Conclusion a claim (Ok (concluded.Apart k n apart)) a'
+    → Invariant A B (view a) → Invariant A B (view a')
 
 -- it depends on no more than what the automata say
 unfoldable pub InvariantSame : Type 0
-InvariantSame = (A B C D : Automaton) (w : View) → SameAutomata A C → SameAutomata B D → Invariant A B w → Invariant C D w
+InvariantSame =
+    (A B C D : Automaton) (w : View) → SameAutomata A C → SameAutomata B D
+    → Invariant A B w → Invariant C D w
 
 -- included: every tree that the first automaton accepts is accepted by the second
 unfoldable pub IncludedCarries : Type 0

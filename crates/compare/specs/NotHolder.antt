@@ -1,5 +1,5 @@
 -- What calls with numbers that are not the holder's come to: they change nothing. Assumes nothing.
-use Rattle.std.specs.Prelude.{◌≡◌, ℕ, Bool, false, cond, ◌&&◌, List, [], ◌∷◌, Some, Ok, Err, Result, ◌==◌}
+use Rattle.std.specs.Prelude.{◌≡◌, ℕ, Bool, false, cond, ◌&&◌, List, [], ◌∷◌, Some, Ok, Err, Option, Result, ◌==◌}
 use Rattle.refusal.specs.declared.fault.Fault.TheVariants.{Foreign, Ousted}
 use Rattle.refusal.specs.declared.fault.Refusal.{Refusal}
 use Rattle.refusal.specs.Order.{first_of}
@@ -25,17 +25,18 @@ is_holder w n = n.area == w.number && held_by w n.serial
 abbrev pub refusal_of_not_holder : View → Numbers → Refusal
 refusal_of_not_holder w n = record { fault = cond (n.area == w.number) Ousted Foreign; place = w.serial }
 
--- a step is refused: by a fault of the schemas, by `symbols`, or as what is not the holder's; the
--- area stays as it was
+-- with two schemas: a fault of theirs, `symbols`, or else what is refused of the numbers
+abbrev pub refusal_with_schemas : View → Tables → Tables → Numbers → Option Refusal
+refusal_with_schemas w T U n =
+    first_of (either_fault T U ∷ other_symbols w T U ∷ Some (refusal_of_not_holder w n) ∷ [])
+
+-- a step is refused; the area stays as it was
 unfoldable pub StepByNotHolder : Type 0
 StepByNotHolder =
     (T U : Tables) (sets others : List (ℕ → Bool)) (claim : Numbers) (n slots : ℕ)
     (a : Area) (r : Result (ℕ × ℕ) Refusal) (a' : Area)
-    → Stepping T U sets others claim n slots a r a' → is_holder (view a) claim ≡ false → (e : Refusal)
-    × (r ≡ Err e)
-    × (first_of (either_fault T U ∷ other_symbols (view a) T U ∷ Some (refusal_of_not_holder (view a) claim) ∷ [])
-    ≡ Some e)
-    × (a' ≡ a)
+    → Stepping T U sets others claim n slots a r a' → is_holder (view a) claim ≡ false
+    → (e : Refusal) × (r ≡ Err e) × (refusal_with_schemas (view a) T U claim ≡ Some e) × (a' ≡ a)
 
 -- a conclusion is refused, and hands back the claim; the area stays as it was
 unfoldable pub ConclusionByNotHolder : Type 0

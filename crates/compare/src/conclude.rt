@@ -16,8 +16,8 @@ pub enum Concluded {
     Apart(Kind, usize, ApartClaim),
 }
 
-/// Concludes the comparison of a ready area. Included spends the claim and frees the area, apart gives an apart claim for it. Or
-/// `foreign`, `ousted` or `early`, with the claim.
+/// Concludes the comparison of a ready area. Included spends the claim and frees the area, apart
+/// gives an apart claim for it. Or `foreign`, `ousted` or `early`, with the claim.
 #[tactic(auto, using(crate::proofs::Laws::conclude_laws))]
 pub fn conclude(area: &mut Area, claim: Claim) -> Result<Concluded, (Refusal, Claim)>
     ensures outcome { Conclusion area.old claim result area.new }

@@ -63,10 +63,12 @@ impl Leading {
     fn list_nexts<D: Domain>(self, compared: &Compared<D>, pairs: &mut Pairs)
         ensures firsts { pairs.new.firsts ≡ pairs.old.firsts }
         ensures seconds { pairs.new.seconds ≡ pairs.old.seconds }
-        ensures entries { Inside compared.now pairs.old → StatePair compared.now self.pair.first self.pair.second →
+        ensures entries { Inside compared.now pairs.old →
+            StatePair compared.now self.pair.first self.pair.second →
             self.place < length (entries_of pairs.old) →
-            entries_of pairs.new ≡ nexts_of D.Domain.holds compared.now self.pair self.place (bit self.symbols)
-            (symbols_of compared.now.first.now) (entries_of pairs.old) }
+            entries_of pairs.new ≡
+            nexts_of D.Domain.holds compared.now self.pair self.place
+            (bit self.symbols) (symbols_of compared.now.first.now) (entries_of pairs.old) }
     {
         for symbol in 0..compared.first.symbols() {
             if let Some(next) = self.next(compared, symbol as u8) {
@@ -81,7 +83,8 @@ impl Area {
     /// where no pair is left behind it.
     fn go_on<D: Domain>(&mut self, compared: &Compared<D>, pair: Listed, place: u16)
         ensures { Noted compared.now (view self.old) → MarksLive D.Domain.holds compared.now →
-            StatePair compared.now pair.first pair.second → place < length (entries_of self.old.pairs) →
+            StatePair compared.now pair.first pair.second →
+            place < length (entries_of self.old.pairs) →
             GoesOnIn D.Domain.holds compared.now (view self.old) pair place (view self.new) }
     {
         let symbols = compared
@@ -143,7 +146,8 @@ impl Area {
         scratch: &'a mut [RowPair],
     ) -> Result<RowSlots<'a>, Refusal>
         ensures { Refuses
-            (step_kept_from (view self.now) (tables_of first.now) (tables_of second.now) claim steps (length scratch.old))
+            (step_kept_from (view self.now) (tables_of first.now) (tables_of second.now)
+            claim steps (length scratch.old))
             result }
     {
         self.permits_held(first, second, claim)?;
@@ -177,7 +181,8 @@ impl Area {
 
     /// Whether the noted counts are those of the two schemas.
     fn has_noted<D>(&self, first: &Tested<D>, second: &Tested<D>) -> bool
-        ensures { result ≡ same_counts (view self.now) (tables_of first.now) (tables_of second.now) }
+        ensures { result ≡
+            same_counts (view self.now) (tables_of first.now) (tables_of second.now) }
     {
         let same_symbols = self.symbols as usize == first.symbols();
         let same_firsts = self.pairs.firsts() as usize == first.states();
@@ -195,9 +200,10 @@ impl Area {
     }
 }
 
-/// Examines up to that many pairs in the order of the list, until the verdict stands: how many it examined, and 1 where the verdict
-/// stands, else 0. The claim is told by its two numbers. Or `size`, `state`, `row`, `domain`, `symbols`, `foreign`, `ousted`, `schemas`,
-/// `steps` or `scratch`, and the area is as it was. The row pairs hold anything afterwards.
+/// Examines up to that many pairs in the order of the list, until the verdict stands: how many it
+/// examined, and 1 where the verdict stands, else 0. The claim is told by its two numbers. Or
+/// `size`, `state`, `row`, `domain`, `symbols`, `foreign`, `ousted`, `schemas`, `steps` or
+/// `scratch`, and the area is as it was. The row pairs hold anything afterwards.
 #[tactic(auto, using(crate::proofs::Laws::step_laws))]
 pub fn step<D: Domain>(
     area: &mut Area,
@@ -207,8 +213,9 @@ pub fn step<D: Domain>(
     steps: u32,
     scratch: &mut [RowPair],
 ) -> Result<(u32, u32), Refusal>
-    ensures outcome { Stepping (tables first.now) (tables second.now) (sets D.Domain.holds first.now)
-        (sets D.Domain.holds second.now) claim steps (length scratch.old) area.old result area.new }
+    ensures outcome { Stepping (tables first.now) (tables second.now)
+        (sets D.Domain.holds first.now) (sets D.Domain.holds second.now)
+        claim steps (length scratch.old) area.old result area.new }
     ensures laws { StepLaws }
 {
     let (first, second) = Tested::both(first, second)?;

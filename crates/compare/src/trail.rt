@@ -58,8 +58,9 @@ pub(crate) fn broken_index(area: &Area) -> usize
     if last < area.pairs.length() { last } else { 0 }
 }
 
-/// Writes the symbols that lead from the pair (0, 0) to the broken pair at the output's front, a byte each, and tells how many. Or `foreign`,
-/// `ousted`, `early` or `room`. The claim comes back either way.
+/// Writes the symbols that lead from the pair (0, 0) to the broken pair at the output's front, a
+/// byte each, and tells how many. Or `foreign`, `ousted`, `early` or `room`. The claim comes back
+/// either way.
 #[tactic(auto, using(crate::proofs::Laws::trail_laws))]
 pub fn trail<S: ConcludedApart>(
     area: &Area,

@@ -26,8 +26,8 @@ pub struct BrokenPair<'a> {
     pub kind: Kind,
 }
 
-/// The row pairs for a document of the claim, or what keeps two schemas from it: `symbols`, `foreign`, `ousted`, `schemas`, `early` or
-/// `scratch`.
+/// The row pairs for a document of the claim, or what keeps two schemas from it: `symbols`,
+/// `foreign`, `ousted`, `schemas`, `early` or `scratch`.
 pub fn permits_write<'a, D>(
     area: &Area,
     first: &Tested<D>,
@@ -36,7 +36,8 @@ pub fn permits_write<'a, D>(
     scratch: &'a mut [RowPair],
 ) -> Result<RowSlots<'a>, Refusal>
     ensures { Refuses
-        (write_kept_from (view area.now) (tables_of first.now) (tables_of second.now) claim (length scratch.old))
+        (write_kept_from (view area.now) (tables_of first.now) (tables_of second.now)
+        claim (length scratch.old))
         result }
 {
     area.permits_held(first, second, claim)?;
