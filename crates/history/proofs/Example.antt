@@ -22,7 +22,7 @@ use Rattle.compare.specs.View.{View, view, free}
 use Rattle.compare.proofs.Keeping.{kept_pairs_from, Kept}
 use Rattle.document.specs.Writing.{Found}
 use Rattle.history.specs.Calls.{take_up, Does, Runs}
-use Rattle.history.specs.Example.{pair_of, claim, room_for_six, example, ExampleRuns}
+use Rattle.history.specs.Example.{two_schemas, claim, room_for_six, example, ExampleRuns}
 use Rattle.history.specs.Marked.{zero_alone, U, V, over_zero}
 use Rattle.history.proofs.Marked.{alone_U, alone_V, broken_examined, one_turn, u_v_examined, v_u_broken, v_u_document}
 
@@ -124,7 +124,7 @@ module _ (a : Area) (made : view a ≡ free 7 0) where
   -- a comparison of U and V begins on a free area
   begins :
       (x : Area) (serial : ℕ) → view x ≡ free 7 serial → begin_refusal (free 7 serial) U V Take ≡ None →
-      Does (take_up (pair_of U V) (Ok (claim (serial + 1)))) x (running (serial + 1))
+      Does (take_up (two_schemas U V) (Ok (claim (serial + 1)))) x (running (serial + 1))
   begins x serial is may =
       subst (λ (w : View). (begin_refusal w U V Take ≡ None) × Begins U V zero_alone w (claim (serial + 1)) (view (running (serial + 1)))) (sym is)
       (may, record { live = true; decides = (λ yes. alone_U, λ alive. refl); after = refl; number = refl; serial = refl })

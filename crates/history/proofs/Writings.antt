@@ -29,7 +29,7 @@ use Rattle.document.specs.Documents.{DocumentOf}
 use Rattle.document.proofs.Accepting.{built_tells}
 use Rattle.history.specs.Calls.{Handed, first_automaton, second_automaton, Same, Call, trail, document, Does, Runs, same_numbers, is_made_with, some_own, is_writing, StepsOver}
 use Rattle.history.specs.Comparisons.{Comparison, own_call, StepsOverItsOwn}
-use Rattle.history.specs.Law.{BrokenInList, SymbolsWritten, DocumentWritten, WritesTrail, WritesDocument, WroteBy, Wrote}
+use Rattle.history.specs.Law.{BrokenInList, WordWritten, DocumentWritten, WritesTrail, WritesDocument, WroteBy, Wrote}
 use Rattle.history.proofs.Counting.{is_apart}
 use Rattle.history.proofs.Effects.{Effect, Steps, Parts, effect, step_none}
 use Rattle.history.proofs.Holders.{stands_by, Gone, not_holders, gone_on, Standing, stands_on}
@@ -104,7 +104,7 @@ module _ (g : Handed) (b : BrokenInList g) where
   -- where the area is apart so, an accepted trail writes the word of the path
   fixed_trail :
       (m : Numbers) (o : List ℕ) (size : ℕ) (o' : List ℕ) (a a' : Area) → Does (trail m o (Ok size) o') a a' → FixedIn a →
-      SymbolsWritten b.path o size o'
+      WordWritten b.path o size o'
   fixed_trail m o size o' a a' does fixed =
       let t = does.0 in
       let there : Trail b.pairs b.index t.0 = subst (λ (j : ℕ). Trail b.pairs j t.0) fixed.index (subst (λ (es : List Listed). Trail es (broken_index (view a)) t.0) fixed.pairs t.1) in

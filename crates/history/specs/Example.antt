@@ -15,8 +15,8 @@ use Rattle.history.specs.Calls.{Handed, Call, take_up, oust, step, conclude, tra
 use Rattle.history.specs.Marked.{zero_alone, U, V}
 
 -- two of the marked schemas, over the keyword domain {0}
-abbrev pub pair_of : Tables → Tables → Handed
-pair_of S T = record { first = S; second = T; first_sets = zero_alone; second_sets = zero_alone }
+abbrev pub two_schemas : Tables → Tables → Handed
+two_schemas S T = record { first = S; second = T; first_sets = zero_alone; second_sets = zero_alone }
 
 -- the numbers of the claims of area 7
 abbrev pub numbers : ℕ → Numbers
@@ -36,17 +36,17 @@ room_for_six = 9 ∷ 9 ∷ 9 ∷ 9 ∷ 9 ∷ 9 ∷ []
 -- stepped, and concluded included
 abbrev pub example : List Call
 example =
-    take_up (pair_of U V) (Ok (claim 1))
-    ∷ oust (pair_of V U) (Ok (claim 2))
-    ∷ step (numbers 1) (pair_of U V) 1 ROW_PAIRS (Err (record { fault = Ousted; place = 2 }))
-    ∷ step (numbers 2) (pair_of V U) MOST_STEPS ROW_PAIRS (Ok (1, 1))
+    take_up (two_schemas U V) (Ok (claim 1))
+    ∷ oust (two_schemas V U) (Ok (claim 2))
+    ∷ step (numbers 1) (two_schemas U V) 1 ROW_PAIRS (Err (record { fault = Ousted; place = 2 }))
+    ∷ step (numbers 2) (two_schemas V U) MOST_STEPS ROW_PAIRS (Ok (1, 1))
     ∷ conclude (claim 2) (Ok (concluded.Apart Content 1 (claim 2)))
     ∷ trail (numbers 2) (9 ∷ []) (Ok 0) (9 ∷ [])
-    ∷ document (numbers 2) (pair_of V U) ROW_PAIRS LEVELS room_for_six (Ok 5) (0 ∷ 1 ∷ 0 ∷ 0 ∷ 0 ∷ 9 ∷ [])
+    ∷ document (numbers 2) (two_schemas V U) ROW_PAIRS LEVELS room_for_six (Ok 5) (0 ∷ 1 ∷ 0 ∷ 0 ∷ 0 ∷ 9 ∷ [])
     ∷ give_up (numbers 1) (Ok 0)
     ∷ give_up (numbers 2) (Ok 1)
-    ∷ take_up (pair_of U V) (Ok (claim 3))
-    ∷ step (numbers 3) (pair_of U V) 1 ROW_PAIRS (Ok (1, 1))
+    ∷ take_up (two_schemas U V) (Ok (claim 3))
+    ∷ step (numbers 3) (two_schemas U V) 1 ROW_PAIRS (Ok (1, 1))
     ∷ conclude (claim 3) (Ok (concluded.Included 1))
     ∷ []
 

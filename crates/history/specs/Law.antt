@@ -65,8 +65,8 @@ pub record Right (A B : Automaton) (v : Concluded) : Type 0 where
   -- and the kind is that of a broken pair that both reach
   pub kind : ReachesBroken A B v
 
--- the word of the path stand at the output's front, and so many were answered
-pub record SymbolsWritten (path : List Listed) (o : List ℕ) (size : ℕ) (o' : List ℕ) : Type 0 where
+-- the word of the path stands at the output's front, and so many were answered
+pub record WordWritten (path : List Listed) (o : List ℕ) (size : ℕ) (o' : List ℕ) : Type 0 where
   pub answer : size ≡ length path
   pub bytes : o' ≡ overwritten o 0 (word_of pair_links path)
 
@@ -89,20 +89,21 @@ pub record BrokenInList (g : Handed) : Type 0 where
   -- and lead in the second too
   pub beside : StatePath (second_automaton g) 0 (word_of pair_links path) entry.second
 
--- the bytes of a tree stand at the output's front, and so many were answered: it is built along the
--- path to the broken pair, and accepted by the first automaton alone
-pub record DocumentWritten (g : Handed) (b : BrokenInList g) (o : List ℕ) (size : ℕ) (o' : List ℕ) : Type 0 where
-  pub tree : Tree
-  pub document : DocumentOf (first_automaton g) (second_automaton g) b.kind b.pairs b.index b.path tree
-  pub first : accepts (first_automaton g) 0 tree ≡ true
-  pub second : accepts (second_automaton g) 0 tree ≡ false
-  pub answer : size ≡ length (tree_bytes tree)
-  pub bytes : o' ≡ overwritten o 0 (tree_bytes tree)
+module _ (g : Handed) (b : BrokenInList g) where
+  -- the bytes of a tree stand at the output's front, and so many were answered: it is built along
+  -- the path to the broken pair, and accepted by the first automaton alone
+  pub record DocumentWritten (o : List ℕ) (size : ℕ) (o' : List ℕ) : Type 0 where
+    pub tree : Tree
+    pub document : DocumentOf (first_automaton g) (second_automaton g) b.kind b.pairs b.index b.path tree
+    pub first : accepts (first_automaton g) 0 tree ≡ true
+    pub second : accepts (second_automaton g) 0 tree ≡ false
+    pub answer : size ≡ length (tree_bytes tree)
+    pub bytes : o' ≡ overwritten o 0 (tree_bytes tree)
 
 -- an accepted trail call with these numbers wrote the word of the path; nothing is said of other
 -- calls
 abbrev pub WritesTrail : Numbers → List Listed → Call → Type 0
-WritesTrail n path (trail m o (Ok size) o') = same_numbers n m ≡ true → SymbolsWritten path o size o'
+WritesTrail n path (trail m o (Ok size) o') = same_numbers n m ≡ true → WordWritten path o size o'
 WritesTrail n path d = Unit {0}
 
 -- an accepted document call with these numbers and schemas wrote the tree along the path; nothing
