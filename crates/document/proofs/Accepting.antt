@@ -8,7 +8,7 @@ use Rattle.compare.specs.declared.phase.Kind.{Kind}
 use Rattle.compare.specs.declared.phase.Kind.TheVariants.{Value, Content}
 use Rattle.samples.specs.Samples.{Sample, Samples}
 use Rattle.samples.proofs.Accepting.{samples_accepted}
-use Rattle.document.specs.Documents.{AtEnd, Built, GoesOn, LeadsTo, TellsApart}
+use Rattle.document.specs.Documents.{AtEnd, Built, HoldsPart, LeadsTo, TellsApart}
 
 -- what a next state says of a tree is said under the symbol that leads to it
 under : (A : Automaton) (p a b s : ℕ) (t : Tree) (says : Bool) → a ≡ b → A.next p b ≡ Some s → accepts A s t ≡ says → passes (A.next p a) (λ r. accepts A r t) ≡ says
@@ -36,7 +36,7 @@ module _ (A B : Automaton) where
           and_right (B.has q v) _ (and_right (allowed B q (word cs)) _ below.1),
         )
 
-    goes_on_tells : (k : Kind) (p q : ℕ) (e : Listed) (way : List Listed) (cs : Children) → LeadsTo A B p q e → GoesOn A B k p e way cs → (accepts_all A p cs ≡ true) × (accepts_all B q cs ≡ false)
+    goes_on_tells : (k : Kind) (p q : ℕ) (e : Listed) (way : List Listed) (cs : Children) → LeadsTo A B p q e → HoldsPart A B k p e way cs → (accepts_all A p cs ≡ true) × (accepts_all B q cs ≡ false)
     goes_on_tells k p q e way none to on = absurd on
     goes_on_tells k p q e way (child a t cs) to on =
         ⊎_elim

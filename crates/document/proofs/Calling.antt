@@ -30,9 +30,9 @@ use Rattle.samples.specs.declared.node.NodeKey.{NodeKey}
 use Rattle.samples.specs.declared.output.Output.{Output}
 use Rattle.document.specs.Documents.{DocumentOf}
 use Rattle.samples.specs.Writing.{Leaves}
-use Rattle.samples.specs.Outputs.{Added}
+use Rattle.samples.specs.Outputs.{Appended}
 use Rattle.document.specs.declared.document.TheConstants.{LEVELS}
-use Rattle.document.specs.Writing.{kept_from, short_levels, DocumentAnswer, DocumentIn, Documenting, Found, NoDocument, TreeAnswer}
+use Rattle.document.specs.Writing.{document_kept_from, short_levels, DocumentAnswer, DocumentIn, Documenting, FoundDocument, NoDocument, TreeAnswer}
 
 -- what is said of tested schemas is said of those that were handed over
 pub handed_over : {D : Type 0} (holds : D → ℕ → Bool) (s s' u u' : Schema D) → s ≡ s' → u ≡ u' → (claim : Numbers) (slots levels : ℕ) (a : Area) (o : List ℕ) (r : Result ℕ Refusal) (o' : List ℕ) → Documenting (tables s) (tables u) (sets holds s) (sets holds u) claim slots levels a o r o' → Documenting (tables s') (tables u') (sets holds s') (sets holds u') claim slots levels a o r o'
@@ -51,7 +51,7 @@ err_none None e y is = (refl, cc)
 
 module _ (w : View) (T U : Tables) (claim : Numbers) (slots levels : ℕ) where
   -- where nothing is refused the counts are those noted, and what is lent suffices
-  pub allowed_by : kept_from w T U claim slots levels ≡ None → (other_counts w T U ≡ None) × (LEVELS ≤ levels)
+  pub allowed_by : document_kept_from w T U claim slots levels ≡ None → (other_counts w T U ≡ None) × (LEVELS ≤ levels)
   allowed_by none =
       let write = first_none (write_kept_from w T U claim slots) _ none in
       let held = first_none (held_kept_from w T U claim) _ write.0 in
@@ -87,12 +87,12 @@ inside_of c a b of none =
     record { firsts = ap (λ (p : Pairs). p.firsts) of.1 ∙ counts.0; seconds = ap (λ (p : Pairs). p.seconds) of.1 ∙ counts.1 }
 
 -- what is answered of the area's document
-pub answered : (A B : Automaton) (a : Area) (d : Found A B (view a)) (o : List ℕ) (r : Result ℕ Refusal) (o' : List ℕ) → TreeAnswer d.tree o r o' → DocumentAnswer A B (view a) o r o'
+pub answered : (A B : Automaton) (a : Area) (d : FoundDocument A B (view a)) (o : List ℕ) (r : Result ℕ Refusal) (o' : List ℕ) → TreeAnswer d.tree o r o' → DocumentAnswer A B (view a) o r o'
 answered A B a d o (Ok n) o' so = (d, so)
 answered A B a d o (Err e) o' so = (inr (d, so.0), so.1)
 
 -- bytes were written
-pub added_at : (bytes : List ℕ) (entries : List (Level NodeKey)) (before after : Output) (r : Option (Unit {0})) (levels : Stack (Level NodeKey)) (u : Unit {0}) → Leaves bytes entries before r levels after → r ≡ Some u → Added bytes before after
+pub added_at : (bytes : List ℕ) (entries : List (Level NodeKey)) (before after : Output) (r : Option (Unit {0})) (levels : Stack (Level NodeKey)) (u : Unit {0}) → Leaves bytes entries before r levels after → r ≡ Some u → Appended bytes before after
 added_at bytes entries before after (Some v) levels u wrote is = wrote.0
 added_at bytes entries before after None levels u short is = absurd (none-some _ is)
 

@@ -21,8 +21,8 @@ use Rattle.compare.specs.declared.phase.Kind.TheVariants.{Value, Content}
 use Rattle.compare.specs.Breaking.{Broken}
 use Rattle.compare.specs.Invariant.{StatePath, Reached}
 use Rattle.compare.specs.Pairs.{start}
-use Rattle.document.specs.Documents.{OnWay, LeadsTo, Built, HasDocument}
-use Rattle.document.specs.Forks.{joined}
+use Rattle.document.specs.Documents.{OnPath, LeadsTo, Built, HasDocument}
+use Rattle.document.specs.Forks.{filled}
 use Rattle.samples.specs.Samples.{LowerSequence, SampleSequence, Sample}
 use Rattle.samples.proofs.Growing.{LeadsLive, LeadsSampled, SampledChildren, gather, one_rank}
 use Rattle.samples.proofs.Ranking.{LeadsLower}
@@ -261,14 +261,14 @@ module _ (A B : Automaton) where
         on (first (λ u. LiveSequence A p u × Holds e.symbol u) (symbol.0 ++ e.symbol ∷ symbol.1) (symbol.2, (symbol.0, symbol.1, refl)))
         (λ w.
         let s = parted e.symbol w.0 w.1.passes.1 in
-        let on_way : OnWay A B p e.symbol v.0 (s.0 ++ e.symbol ∷ s.1) = subst (OnWay A B p e.symbol v.0) s.2 (v.1, w.1) in
+        let on_way : OnPath A B p e.symbol v.0 (s.0 ++ e.symbol ∷ s.1) = subst (OnPath A B p e.symbol v.0) s.2 (v.1, w.1) in
         let both = sides A p e.symbol s.0 s.1 on_way.1.passes.0.1 in
         on (children A values p s.0 both.0)
         (λ before.
         on (children A values p s.1 both.1)
         (λ after.
         let f = fork_with A B p q e v.0 s.0 s.1 on_way leads s.3 before after in
-        here (joined A B f.fork part, joined_built A B k p q e way f.fork part built)))))
+        here (filled A B f.fork part, joined_built A B k p q e way f.fork part built)))))
 
     way_built : (k : Kind) (p q x y : ℕ) (way : List Listed) → Live A p → Along p q way x y → Broken A B k x y → Sure ((t : Tree) × Built A B k p q way t)
     way_built k p q x y [] live same broken = end_built k p q live (subst (λ (s : ℕ). Broken A B k s q) (sym same.0) (subst (Broken A B k x) (sym same.1) broken))

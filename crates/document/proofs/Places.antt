@@ -4,8 +4,8 @@ use Rattle.codec.specs.Trees.{word}
 use Rattle.schema.specs.Automata.{Automaton}
 use Rattle.search.specs.Watching.{Holds}
 use Rattle.compare.specs.declared.pairs.Listed.{Listed}
-use Rattle.document.specs.Documents.{OnWay}
-use Rattle.document.specs.Forks.{Fork}
+use Rattle.document.specs.Documents.{OnPath}
+use Rattle.document.specs.Forks.{Context}
 use Rattle.document.proofs.Splitting.{holds_here, holds_later}
 use Rattle.samples.proofs.Unique.{one_samples}
 use Rattle.document.proofs.Unique.{one_on_way}
@@ -21,7 +21,7 @@ one_parting a (b ∷ u) x (c ∷ v) y lacks lacks' is =
     let rest = one_parting a u x v y (λ h. lacks (holds_later a b u h)) (λ h. lacks' (holds_later a c v h)) later in
     (ap (λ (d : ℕ). d ∷ u) here ∙ ap (λ (l : List ℕ). c ∷ l) rest.0, rest.1)
 
-module _ (A B : Automaton) {p q : ℕ} {e : Listed} (f : Fork A B p q e) (v : ℕ) (w : List ℕ) (found : OnWay A B p e.symbol v w) where
+module _ (A B : Automaton) {p q : ℕ} {e : Listed} (f : Context A B p q e) (v : ℕ) (w : List ℕ) (found : OnPath A B p e.symbol v w) where
   -- the value and the sequence found for a node are its fork's
   pub fork_says : (f.value ≡ v) × (word f.before ++ e.symbol ∷ word f.after ≡ w)
   fork_says = one_on_way A B p e.symbol f.value v (word f.before ++ e.symbol ∷ word f.after) w f.on_way found
@@ -31,7 +31,7 @@ module _ (A B : Automaton) {p q : ℕ} {e : Listed} (f : Fork A B p q e) (v : �
   fork_sides u x is lacks = one_parting e.symbol (word f.before) (word f.after) u x f.first lacks (fork_says.1 ∙ is)
 
 -- there is one fork, by its value and its children
-pub one_fork : (A B : Automaton) (p q : ℕ) (e : Listed) (f g : Fork A B p q e) → (f.value ≡ g.value) × (f.before ≡ g.before) × (f.after ≡ g.after)
+pub one_fork : (A B : Automaton) (p q : ℕ) (e : Listed) (f g : Context A B p q e) → (f.value ≡ g.value) × (f.before ≡ g.before) × (f.after ≡ g.after)
 one_fork A B p q e f g =
     let says = fork_says A B f g.value (word g.before ++ e.symbol ∷ word g.after) g.on_way in
     let sides = fork_sides A B f g.value (word g.before ++ e.symbol ∷ word g.after) g.on_way (word g.before) (word g.after) refl g.first in

@@ -11,8 +11,8 @@ use Rattle.search.specs.Watching.{Holds}
 use Rattle.compare.specs.declared.pairs.Listed.{Listed}
 use Rattle.compare.specs.declared.phase.Kind.{Kind}
 use Rattle.compare.specs.declared.phase.Kind.TheVariants.{Value, Content}
-use Rattle.document.specs.Documents.{AtEnd, OnWay, LeadsTo, Built, GoesOn}
-use Rattle.document.specs.Forks.{followed_by, Fork, joined, head, tail, Split}
+use Rattle.document.specs.Documents.{AtEnd, OnPath, LeadsTo, Built, HoldsPart}
+use Rattle.document.specs.Forks.{followed_by, Context, filled, bytes_before, bytes_after, Split}
 use Rattle.samples.specs.Samples.{Samples}
 use Rattle.samples.proofs.Lengths.{many_symbols}
 use Rattle.samples.proofs.Growing.{Inside, HaveRoots, LeadsLive, SampledChildren, sampled_children, live_children, sample_children}
@@ -46,15 +46,15 @@ holds_none a h = by h.0 h.2
     by u is = omega (arith, ap length is, length-append u (a ∷ h.1))
 
 module _ (A B : Automaton) (k : Kind) (p q : ℕ) (e : Listed) (way : List Listed) where
-  goes_on : (part : Tree) (cs ds : Children) → (Holds e.symbol (word cs) → ⊥) → Samples A p cs → Built A B k e.first e.second way part → Samples A p ds → GoesOn A B k p e way (followed_by cs (child e.symbol part ds))
+  goes_on : (part : Tree) (cs ds : Children) → (Holds e.symbol (word cs) → ⊥) → Samples A p cs → Built A B k e.first e.second way part → Samples A p ds → HoldsPart A B k p e way (followed_by cs (child e.symbol part ds))
   goes_on part none ds first s built u = inl (refl, built, u)
   goes_on part (child a t cs) ds first s built u =
       inr ((λ same. first (holds_here e.symbol a (word cs) same)), (s.0, tt), goes_on part cs ds (λ h. first (holds_later e.symbol a (word cs) h)) s.1 built u)
 
   -- a part with a fork on top is built along a way that is one pair longer
-  pub joined_built : (f : Fork A B p q e) (part : Tree) → Built A B k e.first e.second way part → Built A B k p q (e ∷ way) (joined A B f part)
+  pub joined_built : (f : Context A B p q e) (part : Tree) → Built A B k e.first e.second way part → Built A B k p q (e ∷ way) (filled A B f part)
   joined_built f part built = (
-    subst (OnWay A B p e.symbol f.value) (sym (word_followed f.before (child e.symbol part f.after))) f.on_way,
+    subst (OnPath A B p e.symbol f.value) (sym (word_followed f.before (child e.symbol part f.after))) f.on_way,
     f.leads,
     goes_on part f.before f.after f.first f.samples_before built f.samples_after,
   )
@@ -70,7 +70,7 @@ module _ (A B : Automaton) (k : Kind) (p q : ℕ) (e : Listed) (way : List Liste
     samples_after : Samples A p after
     built : Built A B k e.first e.second way part
 
-  parting : (cs : Children) → GoesOn A B k p e way cs → Parting cs
+  parting : (cs : Children) → HoldsPart A B k p e way cs → Parting cs
   parting none on = absurd on
   parting (child a t cs) on =
       ⊎_elim
@@ -113,7 +113,7 @@ module _ (A B : Automaton) (k : Kind) (p q : ℕ) (e : Listed) (way : List Liste
               value = v;
               before = s.before;
               after = s.after;
-              on_way = subst (OnWay A B p e.symbol v) (ap word s.is ∙ word_followed s.before (child e.symbol s.part s.after)) b.0;
+              on_way = subst (OnPath A B p e.symbol v) (ap word s.is ∙ word_followed s.before (child e.symbol s.part s.after)) b.0;
               leads = b.1;
               first = s.first;
               samples_before = s.samples_before;
@@ -124,13 +124,13 @@ module _ (A B : Automaton) (k : Kind) (p q : ℕ) (e : Listed) (way : List Liste
         whole = ap (node v) s.is;
       }
 
--- six lists joined, with the last two apart
+-- six lists filled, with the last two apart
 regrouped : (v n b a t x : List ℕ) → v ++ (n ++ (b ++ (a ++ (t ++ x)))) ≡ (v ++ (n ++ (b ++ a))) ++ (t ++ x)
 regrouped v n b a t x = simp append_assoc
 
-module _ (A B : Automaton) {p q : ℕ} {e : Listed} (f : Fork A B p q e) where
+module _ (A B : Automaton) {p q : ℕ} {e : Listed} (f : Context A B p q e) where
   -- the bytes of a fork with its part: the part's between the fork's own
-  pub joined_bytes : (part : Tree) → tree_bytes (joined A B f part) ≡ head A B f ++ (tree_bytes part ++ tail A B f)
+  pub joined_bytes : (part : Tree) → tree_bytes (filled A B f part) ≡ bytes_before A B f ++ (tree_bytes part ++ bytes_after A B f)
   joined_bytes part =
       let others = child e.symbol part f.after in
       let count : many (followed_by f.before others) ≡ length (word f.before ++ e.symbol ∷ word f.after) = many_symbols (followed_by f.before others) ∙ ap length (word_followed f.before others) in
@@ -145,12 +145,12 @@ sides A p a (b ∷ u) x all = let rest = sides A p a u x all.1 in ((all.0, rest.
 
 -- where two states have a value and a sequence with a symbol that leads on to a listed pair, there is a fork
 pub record Forked (A B : Automaton) (p q : ℕ) (e : Listed) (v : ℕ) (u x : List ℕ) : Type 0 where
-  pub fork : Fork A B p q e
+  pub fork : Context A B p q e
   pub value : fork.value ≡ v
   pub word_before : word fork.before ≡ u
   pub word_after : word fork.after ≡ x
 
-module _ (A B : Automaton) (p q : ℕ) (e : Listed) (v : ℕ) (u x : List ℕ) (on_way : OnWay A B p e.symbol v (u ++ e.symbol ∷ x)) (leads : LeadsTo A B p q e) (first : Holds e.symbol u → ⊥) where
+module _ (A B : Automaton) (p q : ℕ) (e : Listed) (v : ℕ) (u x : List ℕ) (on_way : OnPath A B p e.symbol v (u ++ e.symbol ∷ x)) (leads : LeadsTo A B p q e) (first : Holds e.symbol u → ⊥) where
   -- from samples for the symbols before it and after it
   pub fork_with : SampledChildren A p u → SampledChildren A p x → Forked A B p q e v u x
   fork_with before after =
@@ -160,7 +160,7 @@ module _ (A B : Automaton) (p q : ℕ) (e : Listed) (v : ℕ) (u x : List ℕ) (
               value = v;
               before = before.0;
               after = after.0;
-              on_way = subst (λ (l : List ℕ). OnWay A B p e.symbol v (l ++ e.symbol ∷ word after.0)) (sym before.1) (subst (λ (l : List ℕ). OnWay A B p e.symbol v (u ++ e.symbol ∷ l)) (sym after.1) on_way);
+              on_way = subst (λ (l : List ℕ). OnPath A B p e.symbol v (l ++ e.symbol ∷ word after.0)) (sym before.1) (subst (λ (l : List ℕ). OnPath A B p e.symbol v (u ++ e.symbol ∷ l)) (sym after.1) on_way);
               leads = leads;
               first = λ h. first (subst (Holds e.symbol) before.1 h);
               samples_before = before.2;

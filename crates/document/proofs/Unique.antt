@@ -12,9 +12,9 @@ use Rattle.compare.specs.declared.phase.Kind.TheVariants.{Value, Content}
 use Rattle.compare.specs.declared.phase.Phase.TheVariants as phase
 use Rattle.compare.specs.Trailing.{broken_index}
 use Rattle.compare.specs.View.{View}
-use Rattle.document.specs.Documents.{AtEnd, OnWay, Built, GoesOn, DocumentOf, OneDocument}
+use Rattle.document.specs.Documents.{AtEnd, OnPath, Built, HoldsPart, DocumentOf, OneDocument}
 use Rattle.samples.specs.Samples.{LowerSequence, Sample, Samples}
-use Rattle.document.specs.Writing.{DocumentIn, Found, NoDocument}
+use Rattle.document.specs.Writing.{DocumentIn, FoundDocument, NoDocument}
 use Rattle.samples.proofs.Unique.{one_smallest, same_node, same_child, one_samples}
 use Rattle.search.proofs.Paths.{one_path}
 use Rattle.compare.specs.Listing.{pair_links}
@@ -26,7 +26,7 @@ module _ (A B : Automaton) where
   one_end Content p q v w x y s r = (one_smallest _ v w s.0 r.0, one_first _ x y s.1 r.1)
 
   -- and so has each node before it
-  pub one_on_way : (p a v w : ℕ) (x y : List ℕ) → OnWay A B p a v x → OnWay A B p a w y → (v ≡ w) × (x ≡ y)
+  pub one_on_way : (p a v w : ℕ) (x y : List ℕ) → OnPath A B p a v x → OnPath A B p a w y → (v ≡ w) × (x ≡ y)
   one_on_way p a v w x y s r = (one_smallest (A.has p) v w s.0 r.0, one_first _ x y s.1 r.1)
 
   mutual
@@ -39,7 +39,7 @@ module _ (A B : Automaton) where
         let same = one_on_way p e.symbol v w (word cs) (word ds) s.0 r.0 in
         same_node v w cs ds same.0 (one_going_on k p e way cs ds same.1 s.2 r.2)
 
-    one_going_on : (k : Kind) (p : ℕ) (e : Listed) (way : List Listed) (cs ds : Children) → word cs ≡ word ds → GoesOn A B k p e way cs → GoesOn A B k p e way ds → cs ≡ ds
+    one_going_on : (k : Kind) (p : ℕ) (e : Listed) (way : List Listed) (cs ds : Children) → word cs ≡ word ds → HoldsPart A B k p e way cs → HoldsPart A B k p e way ds → cs ≡ ds
     one_going_on k p e way none ds same s r = absurd s
     one_going_on k p e way (child a t cs) none same s r = absurd r
     one_going_on k p e way (child a t cs) (child b u ds) same s r =
@@ -77,9 +77,9 @@ module _ (A B : Automaton) (w : View) where
       one_document A B d'.0 w.pairs (broken_index w) v u t r (subst (λ (k : Kind). DocumentOf A B k w.pairs (broken_index w) v t) kind d.2) d'.2
 
   -- so what is found is one tree
-  pub one_found : (f g : Found A B w) → f.tree ≡ g.tree
+  pub one_found : (f g : FoundDocument A B w) → f.tree ≡ g.tree
   one_found f g = (one_document_in f.way g.way f.tree g.tree f.document g.document).1
 
   -- where one is found, it is not lacking
-  pub found_or_not : Found A B w → NoDocument A B w → ⊥
+  pub found_or_not : FoundDocument A B w → NoDocument A B w → ⊥
   found_or_not f lacks = lacks f.way f.tree f.document

@@ -13,9 +13,9 @@ use Rattle.document.specs.declared.counterexample.TheConstants.{NODE_SYMBOLS}
 use Rattle.samples.specs.Kept.{HasSamples}
 
 -- the value and the symbols have the property; none, where nothing has it
-abbrev pub Answered : (ℕ → List ℕ → Type 0) → Option (Node NODE_SYMBOLS) → Type 0
-Answered P (Some n) = P n.value n.word
-Answered P None = (v : ℕ) (w : List ℕ) → P v w → ⊥
+abbrev pub NodeOrNone : (ℕ → List ℕ → Type 0) → Option (Node NODE_SYMBOLS) → Type 0
+NodeOrNone P (Some n) = P n.value n.word
+NodeOrNone P None = (v : ℕ) (w : List ℕ) → P v w → ⊥
 
 -- the least value of a state, and the shortest live sequence that passes the test, of equally short ones the first
 abbrev pub LeastWith : Automaton → ℕ → (List ℕ → Bool) → ℕ → List ℕ → Type 0

@@ -7,8 +7,8 @@ use Rattle.document.specs.declared.write.Passage.{Passage}
 use Rattle.document.specs.Steps.{PathStep}
 
 -- of a step: the first state that it leaves, the symbol by which it goes on, its value and its children's symbols
-abbrev pub passage_of : {A B : Automaton} {es : List Listed} → PathStep A B es → Passage
-passage_of s = record {
+abbrev pub path_node_of : {A B : Automaton} {es : List Listed} → PathStep A B es → Passage
+path_node_of s = record {
   state = s.from.first;
   symbol = s.pair.symbol;
   node = record { value = s.fork.value; word = word s.fork.before ++ s.pair.symbol ∷ word s.fork.after };

@@ -29,12 +29,12 @@ abbrev pub short_levels : ℕ → Option Refusal
 short_levels levels = cond (nat_lt levels LEVELS) (Some (record { fault = Scratch; place = LEVELS })) None
 
 -- what keeps sound schemas from a document of the claim with these numbers, which lends so many row pairs and levels
-abbrev pub kept_from : View → Tables → Tables → Numbers → ℕ → ℕ → Option Refusal
-kept_from w T U claim slots levels = first_of (write_kept_from w T U claim slots ∷ short_levels levels ∷ [])
+abbrev pub document_kept_from : View → Tables → Tables → Numbers → ℕ → ℕ → Option Refusal
+document_kept_from w T U claim slots levels = first_of (write_kept_from w T U claim slots ∷ short_levels levels ∷ [])
 
 -- the refusal before any document is looked for, in the order of the tests
 abbrev pub early_refusal : View → Tables → Tables → Numbers → ℕ → ℕ → Option Refusal
-early_refusal w T U claim slots levels = first_of (either_fault T U ∷ kept_from w T U claim slots levels ∷ [])
+early_refusal w T U claim slots levels = first_of (either_fault T U ∷ document_kept_from w T U claim slots levels ∷ [])
 
 -- the tree is the document of the area's broken pair on two automata, along this way
 abbrev pub DocumentIn : Automaton → Automaton → View → List Listed → Tree → Type 0
@@ -46,7 +46,7 @@ abbrev pub NoDocument : Automaton → Automaton → View → Type 0
 NoDocument A B w = (way : List Listed) (t : Tree) → DocumentIn A B w way t → ⊥
 
 -- there is a document
-pub record Found (A B : Automaton) (w : View) : Type 0 where
+pub record FoundDocument (A B : Automaton) (w : View) : Type 0 where
   pub way : List Listed
   pub tree : Tree
   pub document : DocumentIn A B w way tree
@@ -68,10 +68,10 @@ TreeAnswer t output (Err e) output' = TreeTooLong t output e × (output' ≡ out
 
 -- what is answered where nothing is refused before: what is answered of the document; or `schemas`, and the output as found
 abbrev pub DocumentAnswer : Automaton → Automaton → View → List ℕ → Result ℕ Refusal → List ℕ → Type 0
-DocumentAnswer A B w output (Ok n) output' = (d : Found A B w) × TreeWritten d.tree output n output'
+DocumentAnswer A B w output (Ok n) output' = (d : FoundDocument A B w) × TreeWritten d.tree output n output'
 DocumentAnswer A B w output (Err e) output' =
     ((NoDocument A B w × (e ≡ record { fault = Schemas; place = w.serial }))
-    ⊎ ((d : Found A B w) × TreeTooLong d.tree output e))
+    ⊎ ((d : FoundDocument A B w) × TreeTooLong d.tree output e))
     × (output' ≡ output)
 
 -- the one outcome: the first refusal, which leaves the output as found, or what is answered of the document
@@ -92,8 +92,8 @@ OneDocumenting =
 
 -- with numbers that are not the holder's it is refused: by a fault of the schemas, by `symbols`, or as a stranger's; the output stays as it
 -- was
-unfoldable pub DocumentOfStranger : Type 0
-DocumentOfStranger =
+unfoldable pub DocumentByNotHolder : Type 0
+DocumentByNotHolder =
     (T U : Tables) (sets others : List (ℕ → Bool)) (claim : Numbers) (slots levels : ℕ) (a : Area) (output : List ℕ)
     (r : Result ℕ Refusal) (output' : List ℕ)
     → Documenting T U sets others claim slots levels a output r output' → is_holder (view a) claim ≡ false

@@ -12,10 +12,10 @@ ghost use Rattle.samples.specs.Writing.{Leaves};
 ghost use Rattle.compare.specs.declared.pairs.Listed.{Listed as ListedPair};
 ghost use Rattle.compare.specs.Listing.{entries_of};
 ghost use Rattle.document.specs.Documents.{Built};
-ghost use Rattle.document.specs.Forks.{head, tail};
+ghost use Rattle.document.specs.Forks.{bytes_before, bytes_after};
 ghost use Rattle.document.specs.Nodes.{Ready};
-ghost use Rattle.document.specs.Passing.{passage_of};
-ghost use Rattle.document.specs.Steps.{PathStep, Traced, mark, marks, heads, tails};
+ghost use Rattle.document.specs.Passing.{path_node_of};
+ghost use Rattle.document.specs.Steps.{PathStep, Traced, level_at, levels_of, all_before, all_after};
 
 use crate::counterexample::{Counterexample, NODE_SYMBOLS, around};
 use codec::item::Level;
@@ -40,8 +40,8 @@ impl<D: Domain> Counterexample<'_, '_, '_, '_, '_, D> {
         ensures { Ready D.Domain.holds self.now →
             let A = meaning D.Domain.holds self.now.compared.first.now in
             let B = meaning D.Domain.holds self.now.compared.second.now in
-            (s : PathStep A B (entries_of self.now.pairs.now)) → level ≡ mark s.place →
-            result ≡ Some (passage_of s) }
+            (s : PathStep A B (entries_of self.now.pairs.now)) → level ≡ level_at s.place →
+            result ≡ Some (path_node_of s) }
     {
         let NodeKey::Pair(place) = level.at else {
             return None;
@@ -91,8 +91,8 @@ impl<D: Domain> Counterexample<'_, '_, '_, '_, '_, D> {
         ensures written { Ready D.Domain.holds self.now → STATES ≤ length levels.old.free →
             let A = meaning D.Domain.holds self.now.compared.first.now in
             let B = meaning D.Domain.holds self.now.compared.second.now in
-            (s : PathStep A B (entries_of self.now.pairs.now)) → passage.now ≡ passage_of s →
-            Leaves (head A B s.fork) levels.old.entries output.old result levels.new output.new }
+            (s : PathStep A B (entries_of self.now.pairs.now)) → passage.now ≡ path_node_of s →
+            Leaves (bytes_before A B s.fork) levels.old.entries output.old result levels.new output.new }
         ensures slots { slots_of levels.new ≡ slots_of levels.old }
     {
         let (before, _) = around(passage.node.word.as_slice(), passage.symbol)?;
@@ -111,8 +111,8 @@ impl<D: Domain> Counterexample<'_, '_, '_, '_, '_, D> {
         ensures written { Ready D.Domain.holds self.now → STATES ≤ length levels.old.free → Within output.old →
             let A = meaning D.Domain.holds self.now.compared.first.now in
             let B = meaning D.Domain.holds self.now.compared.second.now in
-            (s : PathStep A B (entries_of self.now.pairs.now)) → passage.now ≡ passage_of s →
-            Leaves (tail A B s.fork) levels.old.entries output.old result levels.new output.new }
+            (s : PathStep A B (entries_of self.now.pairs.now)) → passage.now ≡ path_node_of s →
+            Leaves (bytes_after A B s.fork) levels.old.entries output.old result levels.new output.new }
         ensures slots { slots_of levels.new ≡ slots_of levels.old }
     {
         let (_, after) = around(passage.node.word.as_slice(), passage.symbol)?;
@@ -130,8 +130,8 @@ impl<D: Domain> Counterexample<'_, '_, '_, '_, '_, D> {
         ensures written { Ready D.Domain.holds self.now → STATES ≤ length levels.old.free → Within output.old →
             let A = meaning D.Domain.holds self.now.compared.first.now in
             let B = meaning D.Domain.holds self.now.compared.second.now in
-            (steps : List (PathStep A B (entries_of self.now.pairs.now))) → levels.old.entries ≡ marks steps →
-            Leaves (heads steps) levels.old.entries output.old result levels.new output.new }
+            (steps : List (PathStep A B (entries_of self.now.pairs.now))) → levels.old.entries ≡ levels_of steps →
+            Leaves (all_before steps) levels.old.entries output.old result levels.new output.new }
         ensures slots { slots_of levels.new ≡ slots_of levels.old }
     {
         for index in (0..levels.len()).rev() {
@@ -151,8 +151,8 @@ impl<D: Domain> Counterexample<'_, '_, '_, '_, '_, D> {
         ensures written { Ready D.Domain.holds self.now → STATES ≤ length levels.old.free → Within output.old →
             let A = meaning D.Domain.holds self.now.compared.first.now in
             let B = meaning D.Domain.holds self.now.compared.second.now in
-            (steps : List (PathStep A B (entries_of self.now.pairs.now))) → levels.old.entries ≡ marks steps →
-            Leaves (tails steps) levels.old.entries output.old result levels.new output.new }
+            (steps : List (PathStep A B (entries_of self.now.pairs.now))) → levels.old.entries ≡ levels_of steps →
+            Leaves (all_after steps) levels.old.entries output.old result levels.new output.new }
         ensures slots { slots_of levels.new ≡ slots_of levels.old }
     {
         for index in 0..levels.len() {

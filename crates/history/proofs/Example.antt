@@ -20,7 +20,7 @@ use Rattle.compare.specs.declared.step.TheConstants.{MOST_STEPS}
 use Rattle.compare.specs.Stepping.{Stepped}
 use Rattle.compare.specs.View.{View, view, free}
 use Rattle.compare.proofs.Keeping.{kept_pairs_from, Kept}
-use Rattle.document.specs.Writing.{Found}
+use Rattle.document.specs.Writing.{FoundDocument}
 use Rattle.history.specs.Calls.{take_up, Does, Runs}
 use Rattle.history.specs.Example.{two_schemas, claim, room_for_six, example, ExampleRuns}
 use Rattle.history.specs.Marked.{zero_alone, U, V, over_zero}
@@ -110,7 +110,7 @@ u_v_step : Stepped (over_zero U) (over_zero V) 1 (view (running 3)) (view ready_
 u_v_step = one_turn (over_zero U) (over_zero V) (view (running 3)) (view ready_included) verdict.Included 1 refl (u_v_examined (free 7 2)) refl (omega arith)
 
 -- the document of V and U
-abbrev v_u_found : Found (over_zero V) (over_zero U) (view concluded_apart)
+abbrev v_u_found : FoundDocument (over_zero V) (over_zero U) (view concluded_apart)
 v_u_found = record { way = []; tree = v_u_document.tree; document = (Content, refl, v_u_document.document) }
 
 module _ (a : Area) (made : view a ≡ free 7 0) where

@@ -13,8 +13,8 @@ use Rattle.compare.specs.Concluding.{GivingUp}
 use Rattle.compare.specs.NotHolder.{is_holder, refusal_of_not_holder, StepByNotHolder, ConclusionByNotHolder, TrailByNotHolder, GivingUpByNotHolder}
 use Rattle.compare.specs.View.{View, view, is_free}
 use Rattle.compare.proofs.NotHolder.{step_by_not_holder, conclusion_by_not_holder, trail_by_not_holder, giving_up_by_not_holder}
-use Rattle.document.specs.Writing.{DocumentOfStranger}
-use Rattle.document.proofs.Outcomes.{document_of_stranger}
+use Rattle.document.specs.Writing.{DocumentByNotHolder}
+use Rattle.document.proofs.Outcomes.{document_by_not_holder}
 use Rattle.history.specs.Calls.{Call, take_up, oust, step, conclude, trail, document, give_up, Does, Runs, same_numbers, is_made_with, some_own, is_inclusion, is_giving_up, is_ousting}
 use Rattle.history.specs.Comparisons.{Comparison, own_call, IsHolder, NeitherOustedNorGivenUp, AnotherBegan, OwnNow}
 use Rattle.history.specs.Law.{TurnedAway}
@@ -69,7 +69,7 @@ module _ (n : Numbers) where
 
   turned_away :
       (d : Call) (a a' : Area) → Does d a a' → Gone n (view a) → is_made_with n d ≡ true → TurnedAway d
-  unfolding StepByNotHolder ConclusionByNotHolder TrailByNotHolder DocumentOfStranger
+  unfolding StepByNotHolder ConclusionByNotHolder TrailByNotHolder DocumentByNotHolder
   turned_away (take_up h r) a a' does gone its = tt
   turned_away (oust h r) a a' does gone its = tt
   turned_away (step m h k slots (Ok answer)) a a' does gone its =
@@ -87,10 +87,10 @@ module _ (n : Numbers) where
       let first : e ≡ refusal_of_not_holder (view a) m = let same = t.0 in cc in
       (ap {B = Fault} (λ (x : Refusal). x.fault) first ∙ says_ousted (view a) m gone.number its, t.1)
   turned_away (document m h slots levels o (Ok size) o') a a' does gone its =
-      let s = document_of_stranger h.first h.second h.first_sets h.second_sets m slots levels a o (Ok size) o' does.0 (not_held (view a) m gone its) in
+      let s = document_by_not_holder h.first h.second h.first_sets h.second_sets m slots levels a o (Ok size) o' does.0 (not_held (view a) m gone its) in
       accepted size s.0 s.1
   turned_away (document m h slots levels o (Err e) o') a a' does gone its =
-      (document_of_stranger h.first h.second h.first_sets h.second_sets m slots levels a o (Err e) o' does.0 (not_held (view a) m gone its)).3
+      (document_by_not_holder h.first h.second h.first_sets h.second_sets m slots levels a o (Err e) o' does.0 (not_held (view a) m gone its)).3
   turned_away (give_up m (Ok k)) a a' does gone its = let same = gives_none m a a' (Ok k) does gone its in cc
   turned_away (give_up m (Err e)) a a' does gone its = accepted 0 e (sym (gives_none m a a' (Err e) does gone its))
 

@@ -30,7 +30,7 @@ use Rattle.compare.specs.Writing.{write_kept_from}
 use Rattle.compare.proofs.Allowing.{fails, held_allows}
 use Rattle.compare.proofs.Tests.{holder_passed, holder_passes}
 use Rattle.document.specs.declared.document.TheConstants.{LEVELS}
-use Rattle.document.specs.Writing.{short_levels, kept_from, early_refusal}
+use Rattle.document.specs.Writing.{short_levels, document_kept_from, early_refusal}
 
 -- the comparison whose claim has these numbers holds the area
 pub record Held (n : Numbers) (w : View) : Type 0 where
@@ -96,7 +96,7 @@ module _ (w : View) (n : Numbers) where
       (T U : Tables) (slots levels : ℕ) → early_refusal w T U n slots levels ≡ None →
       Held n w × (phase_refuses w Write ≡ None)
   document_permitted T U slots levels none =
-      let kept = (first_none (kept_from w T U n slots levels) [] (first_none (either_fault T U) _ none).1).0 in
+      let kept = (first_none (document_kept_from w T U n slots levels) [] (first_none (either_fault T U) _ none).1).0 in
       let held = first_none (held_kept_from w T U n) _ (first_none (write_kept_from w T U n slots) _ kept).0 in
       (holder_held (holder_passed w n (held_allows w T U n held.0).0), (first_none (phase_refuses w Write) _ held.1).0)
 

@@ -9,9 +9,9 @@ use Rattle.samples.specs.declared.node.NodeKey.{NodeKey}
 use Rattle.samples.specs.declared.node.NodeKey.TheVariants.{Pair}
 use Rattle.compare.specs.declared.pairs.Listed.{Listed}
 use Rattle.compare.specs.Listing.{entries_of}
-use Rattle.document.specs.Documents.{OnWay}
+use Rattle.document.specs.Documents.{OnPath}
 use Rattle.document.specs.Nodes.{Ready}
-use Rattle.document.specs.Steps.{LedFrom, mark}
+use Rattle.document.specs.Steps.{LedFrom, level_at}
 use Rattle.document.proofs.Passages.{states_listed}
 use Rattle.document.proofs.Places.{fork_says}
 use Rattle.document.proofs.counterexample.Counterexample.passage.Given as given
@@ -24,7 +24,7 @@ record Met (g : given.Over) (c : After-node_on_path g) (e x : Listed) : Type 0 w
   from : c.in_ok-from.from ≡ x
   low : IsState c.args.self.now.compared.first.now c.in_ok-from.from.first
 
-met : (g : given.Over) (c : After-node_on_path g) (i : ℕ) (e x : Listed) → Ready g.D.Domain.holds c.args.self.now → c.args.level ≡ mark i → LedFrom (entries_of c.args.self.now.pairs.now) i e x → Met g c e x
+met : (g : given.Over) (c : After-node_on_path g) (i : ℕ) (e x : Listed) → Ready g.D.Domain.holds c.args.self.now → c.args.level ≡ level_at i → LedFrom (entries_of c.args.self.now.pairs.now) i e x → Met g c e x
 met g c i e x ready is led =
     let es = entries_of c.args.self.now.pairs.now in
     let key : ◌≡◌ {A = NodeKey} (Pair c.in-Pair.place) (Pair i) = sym c.in-Pair.is ∙ ap (λ (l : Level NodeKey). l.at) is in
@@ -45,7 +45,7 @@ returns-in_err-node g c = λ ready s is.
     let f = s.fork in
     let m = met g (goal.at.returns-in_err-node g c).After-node_on_path s.place s.pair s.from ready is s.led in
     let w = word f.before ++ s.pair.symbol ∷ word f.after in
-    absurd (c.in_err-node.ensures ready m.low f.value w (subst (λ (y : Listed). OnWay A B y.first c.in_ok-pair.pair.symbol f.value w) (sym m.from) (subst (λ (y : Listed). OnWay A B s.from.first y.symbol f.value w) (sym m.pair) f.on_way)))
+    absurd (c.in_err-node.ensures ready m.low f.value w (subst (λ (y : Listed). OnPath A B y.first c.in_ok-pair.pair.symbol f.value w) (sym m.from) (subst (λ (y : Listed). OnPath A B s.from.first y.symbol f.value w) (sym m.pair) f.on_way)))
 
 pub returns : goal.returns
 returns g c = λ ready s is.
@@ -53,6 +53,6 @@ returns g c = λ ready s is.
     let B = meaning g.D.Domain.holds c.args.self.now.compared.second.now in
     let m = met g (goal.at.returns g c).After-node_on_path s.place s.pair s.from ready is s.led in
     let node = c.in_ok-node.node in
-    let found = subst (λ (y : Listed). OnWay A B s.from.first y.symbol node.value node.word) m.pair (subst (λ (y : Listed). OnWay A B y.first c.in_ok-pair.pair.symbol node.value node.word) m.from (c.in_ok-node.ensures ready m.low)) in
+    let found = subst (λ (y : Listed). OnPath A B s.from.first y.symbol node.value node.word) m.pair (subst (λ (y : Listed). OnPath A B y.first c.in_ok-pair.pair.symbol node.value node.word) m.from (c.in_ok-node.ensures ready m.low)) in
     let says = fork_says A B s.fork node.value node.word found in
     λ j. Some (record { state = (m.from j).first; symbol = (m.pair j).symbol; node = record { value = sym says.0 j; word = sym says.1 j } })

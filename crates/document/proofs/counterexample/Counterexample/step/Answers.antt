@@ -8,7 +8,7 @@ use Rattle.samples.proofs.Sizing.{kept_rooted}
 use Rattle.samples.proofs.Tested.{next_inside}
 use Rattle.compare.specs.Listing.{entries_of}
 use Rattle.compare.proofs.Views.{kept_of, many_of}
-use Rattle.document.specs.Documents.{OnWay}
+use Rattle.document.specs.Documents.{OnPath}
 use Rattle.document.proofs.Passages.{states_listed}
 use Rattle.document.proofs.Splitting.{fork_of}
 use Rattle.document.proofs.Stepping.{led_from, no_step}
@@ -45,7 +45,7 @@ returns-clause-back g c = λ ready.
     let low = (states_listed g.D.Domain.holds self ready c.from-at.result from (sym there)).0 in
     let parts = c.in_ok-before.ensures in
     let whole : node.word ≡ u ++ pair.symbol ∷ x = sym c.as_slice.ensures.all ∙ parts.0 in
-    let on_way : OnWay A B from.first pair.symbol node.value (u ++ pair.symbol ∷ x) = subst (OnWay A B from.first pair.symbol node.value) whole (c.in_ok-node.ensures ready low) in
+    let on_way : OnPath A B from.first pair.symbol node.value (u ++ pair.symbol ∷ x) = subst (OnPath A B from.first pair.symbol node.value) whole (c.in_ok-node.ensures ready low) in
     let forked = fork_of A B from.first from.second pair node.value u x on_way (c.leads.ensures.0 c.if-not-leads.false) parts.1 (states_of t) (next_inside g.D.Domain.holds t) (kept_rooted A (states_of t) self.samples ready.samples) low in
     let f = forked.fork in
     let all = ap (λ (l : List ℕ). l ++ pair.symbol ∷ word f.after) forked.word_before ∙ ap (λ (l : List ℕ). u ++ pair.symbol ∷ l) forked.word_after ∙ sym whole in (

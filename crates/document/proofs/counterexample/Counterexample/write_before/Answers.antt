@@ -3,12 +3,12 @@ use Rattle.std.proofs.Common.{◌≡◌, ℕ, sym, ap, ◌∙◌, subst, arith}
 use Rattle.codec.specs.Numbers.{number_bytes}
 use Rattle.codec.specs.Trees.{word}
 use Rattle.schema.specs.Meaning.{meaning, IsState}
-use Rattle.samples.specs.Outputs.{Adds}
+use Rattle.samples.specs.Outputs.{Appends}
 use Rattle.samples.specs.Samples.{Samples}
 use Rattle.samples.proofs.Outputs.{added_within}
 use Rattle.document.specs.declared.write.Passage.{Passage}
 use Rattle.document.specs.Nodes.{Ready}
-use Rattle.document.specs.Passing.{passage_of}
+use Rattle.document.specs.Passing.{path_node_of}
 use Rattle.document.specs.Steps.{PathStep}
 use Rattle.compare.specs.Listing.{entries_of}
 use Rattle.document.proofs.Passages.{leaves_adds, sides, states_listed, all_before, crowded_children}
@@ -16,7 +16,7 @@ use Rattle.document.proofs.counterexample.Counterexample.write_before.Given as g
 use Rattle.document.proofs.counterexample.Counterexample.write_before.Goals as goal
 use Rattle.document.proofs.counterexample.Counterexample.write_before.Goals.{In_ok-before}
 
-module _ (g : given.Over) (c : In_ok-before g) (ready : Ready g.D.Domain.holds c.args.self.now) (s : PathStep (meaning g.D.Domain.holds c.args.self.now.compared.first.now) (meaning g.D.Domain.holds c.args.self.now.compared.second.now) (entries_of c.args.self.now.pairs.now)) (is : c.args.passage.now ≡ passage_of s) where
+module _ (g : given.Over) (c : In_ok-before g) (ready : Ready g.D.Domain.holds c.args.self.now) (s : PathStep (meaning g.D.Domain.holds c.args.self.now.compared.first.now) (meaning g.D.Domain.holds c.args.self.now.compared.second.now) (entries_of c.args.self.now.pairs.now)) (is : c.args.passage.now ≡ path_node_of s) where
   state : c.args.passage.now.state ≡ s.from.first
   state = ap (λ (r : Passage). r.state) is
 
@@ -39,6 +39,6 @@ pub returns-clause-written : goal.returns-clause-written
 returns-clause-written g c = λ ready space s is.
     let at = (goal.at.returns-clause-written g c).In_ok-before in
     let children = c.in_ok-write_samples.ensures.written ready space (added_within _ _ _ c.in_ok-head.ensures) (low g at ready s is) s.fork.before (samples g at ready s is) (before g at ready s is) in
-    let symbol = subst (λ (a : ℕ). Adds (number_bytes a) c.write_samples.new.output c.number.result c.number.new.self) c.from.ensures c.number.ensures in
+    let symbol = subst (λ (a : ℕ). Appends (number_bytes a) c.write_samples.new.output c.number.result c.number.new.self) c.from.ensures c.number.ensures in
     leaves_adds _ _ c.args.output.now _ c.number.result _
     (all_before s c.args.passage.now is c.len.result c.len.ensures.count c.args.output.now c.head.new.self c.in_ok-head.ensures c.write_samples.new.output c.number.new.self c.number.result children.0 symbol) children.1
