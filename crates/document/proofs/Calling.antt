@@ -1,5 +1,5 @@
 -- What the tests of the call tell, and the area's document as it is traced. Assumes nothing.
-use Rattle.std.proofs.Common.{◌≡◌, ℕ, ◌+◌, ◌<◌, ◌≤◌, Bool, Bor, List, [], length, Some, None, Ok, Err, Option, Result, sym, refl, ap, ◌∙◌, subst, inr}
+use Rattle.std.proofs.Common.{◌≡◌, ℕ, ◌+◌, ◌<◌, ◌≤◌, Bool, List, [], length, Some, None, Ok, Err, Option, Result, sym, refl, ap, ◌∙◌, subst, inr}
 use Rattle.std.specs.Option.{ok_or}
 use Rattle.std.proofs.lemmas.Bool.{and_parts, eqb-true, ltb-false, not-false}
 use Rattle.std.proofs.lemmas.Option.{none-some}
@@ -30,9 +30,9 @@ use Rattle.samples.specs.declared.node.NodeKey.{NodeKey}
 use Rattle.samples.specs.declared.output.Output.{Output}
 use Rattle.document.specs.Documents.{DocumentOf}
 use Rattle.samples.specs.Writing.{Leaves}
-use Rattle.samples.specs.Outputs.{Added}
+use Rattle.samples.specs.Outputs.{Appended}
 use Rattle.document.specs.declared.document.TheConstants.{LEVELS}
-use Rattle.document.specs.Writing.{kept_from, short_levels, DocumentAnswer, DocumentIn, Documenting, Found, NoDocument, TreeAnswer}
+use Rattle.document.specs.Writing.{document_kept_from, short_levels, DocumentAnswer, DocumentIn, Documenting, FoundDocument, NoDocument, TreeAnswer}
 
 -- what is said of tested schemas is said of those that were handed over
 pub handed_over : {D : Type 0} (holds : D → ℕ → Bool) (s s' u u' : Schema D) → s ≡ s' → u ≡ u' → (claim : Numbers) (slots levels : ℕ) (a : Area) (o : List ℕ) (r : Result ℕ Refusal) (o' : List ℕ) → Documenting (tables s) (tables u) (sets holds s) (sets holds u) claim slots levels a o r o' → Documenting (tables s') (tables u') (sets holds s') (sets holds u') claim slots levels a o r o'
@@ -51,7 +51,7 @@ err_none None e y is = (refl, cc)
 
 module _ (w : View) (T U : Tables) (claim : Numbers) (slots levels : ℕ) where
   -- where nothing is refused the counts are those noted, and what is lent suffices
-  pub allowed_by : kept_from w T U claim slots levels ≡ None → (other_counts w T U ≡ None) × (LEVELS ≤ levels)
+  pub allowed_by : document_kept_from w T U claim slots levels ≡ None → (other_counts w T U ≡ None) × (LEVELS ≤ levels)
   allowed_by none =
       let write = first_none (write_kept_from w T U claim slots) _ none in
       let held = first_none (held_kept_from w T U claim) _ write.0 in
@@ -67,18 +67,18 @@ counts_of w T U none =
 
 module _ (A B : Automaton) (a : Area) (b : BrokenPair) (of : BrokenOf a (Some b)) where
   -- the document that is traced is the area's
-  pub found_in : (way : List Listed) (t : Tree) → DocumentOf A B b.kind (entries_of b.pairs.now) b.index way t → DocumentIn A B (view a) way t
-  found_in way t d =
-      let pairs = subst (λ (p : Pairs). DocumentOf A B b.kind (entries_of p) b.index way t) of.1 d in
-      (b.kind, of.0, subst (λ (i : ℕ). DocumentOf A B b.kind (entries_of a.pairs) i way t) of.2 pairs)
+  pub found_in : (path : List Listed) (t : Tree) → DocumentOf A B b.kind (entries_of b.pairs.now) b.index path t → DocumentIn A B (view a) path t
+  found_in path t d =
+      let pairs = subst (λ (p : Pairs). DocumentOf A B b.kind (entries_of p) b.index path t) of.1 d in
+      (b.kind, of.0, subst (λ (i : ℕ). DocumentOf A B b.kind (entries_of a.pairs) i path t) of.2 pairs)
 
   -- and where none is there the area has none
-  pub none_in : ((way : List Listed) (t : Tree) → DocumentOf A B b.kind (entries_of b.pairs.now) b.index way t → ⊥) → NoDocument A B (view a)
-  none_in none way t (k, phase, d) =
+  pub none_in : ((path : List Listed) (t : Tree) → DocumentOf A B b.kind (entries_of b.pairs.now) b.index path t → ⊥) → NoDocument A B (view a)
+  none_in none path t (k, phase, d) =
       let kinds : k ≡ b.kind = cc (phase, of.0) in
-      let kind = subst (λ (x : Kind). DocumentOf A B x (entries_of a.pairs) (broken_index (view a)) way t) kinds d in
-      let index = subst (λ (i : ℕ). DocumentOf A B b.kind (entries_of a.pairs) i way t) (sym of.2) kind in
-      none way t (subst (λ (p : Pairs). DocumentOf A B b.kind (entries_of p) b.index way t) (sym of.1) index)
+      let kind = subst (λ (x : Kind). DocumentOf A B x (entries_of a.pairs) (broken_index (view a)) path t) kinds d in
+      let index = subst (λ (i : ℕ). DocumentOf A B b.kind (entries_of a.pairs) i path t) (sym of.2) kind in
+      none path t (subst (λ (p : Pairs). DocumentOf A B b.kind (entries_of p) b.index path t) (sym of.1) index)
 
 -- with the area's counts the list of pairs is inside those of the schemas
 pub inside_of : {D : Type 0} (c : Compared D) (a : Area) (b : BrokenPair) → BrokenOf a (Some b) → other_counts (view a) (tables_of c.first.now) (tables_of c.second.now) ≡ None → Inside c b.pairs.now
@@ -87,12 +87,12 @@ inside_of c a b of none =
     record { firsts = ap (λ (p : Pairs). p.firsts) of.1 ∙ counts.0; seconds = ap (λ (p : Pairs). p.seconds) of.1 ∙ counts.1 }
 
 -- what is answered of the area's document
-pub answered : (A B : Automaton) (a : Area) (d : Found A B (view a)) (o : List ℕ) (r : Result ℕ Refusal) (o' : List ℕ) → TreeAnswer d.tree o r o' → DocumentAnswer A B (view a) o r o'
+pub answered : (A B : Automaton) (a : Area) (d : FoundDocument A B (view a)) (o : List ℕ) (r : Result ℕ Refusal) (o' : List ℕ) → TreeAnswer d.tree o r o' → DocumentAnswer A B (view a) o r o'
 answered A B a d o (Ok n) o' so = (d, so)
 answered A B a d o (Err e) o' so = (inr (d, so.0), so.1)
 
 -- bytes were written
-pub added_at : (bytes : List ℕ) (entries : List (Level NodeKey)) (before after : Output) (r : Option (Unit {0})) (levels : Stack (Level NodeKey)) (u : Unit {0}) → Leaves bytes entries before r levels after → r ≡ Some u → Added bytes before after
+pub added_at : (bytes : List ℕ) (entries : List (Level NodeKey)) (before after : Output) (r : Option (Unit {0})) (levels : Stack (Level NodeKey)) (u : Unit {0}) → Leaves bytes entries before r levels after → r ≡ Some u → Appended bytes before after
 added_at bytes entries before after (Some v) levels u wrote is = wrote.0
 added_at bytes entries before after None levels u short is = absurd (none-some _ is)
 

@@ -13,7 +13,7 @@ use Rattle.search.specs.Watching.{Watching, wanted}
 use Rattle.search.proofs.Orders.{first_alike}
 use Rattle.samples.specs.declared.node.Node.{Node}
 use Rattle.document.specs.declared.counterexample.TheConstants.{NODE_SYMBOLS}
-use Rattle.document.specs.Nodes.{Answered, LeastWith}
+use Rattle.document.specs.Nodes.{NodeOrNone, LeastWith}
 use Rattle.samples.specs.Samples.{SampleSequence}
 use Rattle.samples.proofs.Growing.{sample_rank}
 
@@ -29,7 +29,7 @@ module _ (A : Automaton) (p : ℕ) (test : List ℕ → Bool) (P : List ℕ → 
   first_tested = first_alike _ _ (λ w. ((alike w).1, (alike w).0))
 
   -- a node with one is a node with the other
-  pub answered : (o : Option (Node NODE_SYMBOLS)) → Answered (LeastWith A p test) o → Answered (λ v w. Smallest (A.has p) (Some v) × First (λ u. LiveSequence A p u × P u) w) o
+  pub answered : (o : Option (Node NODE_SYMBOLS)) → NodeOrNone (LeastWith A p test) o → NodeOrNone (λ v w. Smallest (A.has p) (Some v) × First (λ u. LiveSequence A p u × P u) w) o
   answered (Some n) h = (h.0, first_with n.word h.1)
   answered None h = λ v w k. h v w (k.0, first_tested w k.1)
 

@@ -18,12 +18,12 @@ use Rattle.compare.proofs.NotHolder.{found_within, found_third, some_found}
 use Rattle.compare.proofs.Tests.{held_refused}
 use Rattle.samples.specs.declared.size.TheConstants.{TOO_LONG}
 use Rattle.samples.specs.Kept.{needed}
-use Rattle.document.specs.Writing.{kept_from, early_refusal, Found, DocumentAnswer, OneDocumenting, DocumentOfStranger}
+use Rattle.document.specs.Writing.{document_kept_from, early_refusal, FoundDocument, DocumentAnswer, OneDocumenting, DocumentOfStranger}
 use Rattle.document.proofs.Unique.{found_or_not, one_found}
 
 module _ (A B : Automaton) (w : View) (output : List ℕ) where
   -- a document that was written is none that is too long
-  not_both : (n : ℕ) (d f : Found A B w) → n ≡ length (tree_bytes d.tree) → n < TOO_LONG → (n < length output + 1) → (length output < needed f.tree) ⊎ (needed f.tree ≡ TOO_LONG) → ⊥
+  not_both : (n : ℕ) (d f : FoundDocument A B w) → n ≡ length (tree_bytes d.tree) → n < TOO_LONG → (n < length output + 1) → (length output < needed f.tree) ⊎ (needed f.tree ≡ TOO_LONG) → ⊥
   not_both n d f long few fits too =
       let same : length (tree_bytes f.tree) ≡ length (tree_bytes d.tree) = ap (λ (t : Tree). length (tree_bytes t)) (one_found A B w f d) in
       ⊎_elim (λ short. omega (arith, short, long, few, fits, same)) (λ past. omega (arith, past, long, few, fits, same)) too
@@ -73,7 +73,7 @@ document_of_stranger T U sets others claim slots levels a output r output' does 
     let w = view a in
     let found = λ (p q : Option Refusal) (rest : List (Option Refusal)) (is : q ≡ first_of (p ∷ Some (refusal_of_not_holder w claim) ∷ [])). found_within p q (refusal_of_not_holder w claim) rest is in
     let write : write_kept_from w T U claim slots ≡ first_of (other_symbols w T U ∷ Some (refusal_of_not_holder w claim) ∷ []) = found (other_symbols w T U) (held_kept_from w T U claim) _ (held_refused w claim T U other) in
-    let same : early_refusal w T U claim slots levels ≡ first_of (either_fault T U ∷ other_symbols w T U ∷ Some (refusal_of_not_holder w claim) ∷ []) = found_third (either_fault T U) (other_symbols w T U) (kept_from w T U claim slots levels) (refusal_of_not_holder w claim) (found (other_symbols w T U) (write_kept_from w T U claim slots) _ write) in
+    let same : early_refusal w T U claim slots levels ≡ first_of (either_fault T U ∷ other_symbols w T U ∷ Some (refusal_of_not_holder w claim) ∷ []) = found_third (either_fault T U) (other_symbols w T U) (document_kept_from w T U claim slots levels) (refusal_of_not_holder w claim) (found (other_symbols w T U) (write_kept_from w T U claim slots) _ write) in
     ⊎_elim
     (λ refused. (refused.0, refused.2, sym same ∙ refused.1, refused.3))
     (λ answer. absurd (some_found (either_fault T U) (other_symbols w T U) (refusal_of_not_holder w claim) (sym same ∙ answer.0)))

@@ -34,35 +34,35 @@ module _ (A B : Automaton) where
   AtEnd Content p q v w = Smallest (A.has p) (Some v) × First (λ u. LiveSequence A p u × (allowed B q u ≡ false)) w
 
   -- the value and the children's symbols at a node before the end: the least value, and a shortest live sequence that holds the symbol by
-  -- which the way goes on, of equally short ones the first
-  abbrev pub OnWay : ℕ → ℕ → ℕ → List ℕ → Type 0
-  OnWay p a v w = Smallest (A.has p) (Some v) × First (λ u. LiveSequence A p u × Holds a u) w
+  -- which the path goes on, of equally short ones the first
+  abbrev pub OnPath : ℕ → ℕ → ℕ → List ℕ → Type 0
+  OnPath p a v w = Smallest (A.has p) (Some v) × First (λ u. LiveSequence A p u × Holds a u) w
 
   -- the symbol leads the two states to those of the listed pair
   abbrev pub LeadsTo : ℕ → ℕ → Listed → Type 0
   LeadsTo p q e = (A.next p e.symbol ≡ Some e.first) × (B.next q e.symbol ≡ Some e.second)
 
-  -- the tree is built along a way that leaves the pair (p, q): its listed pairs are led to by their symbols; the first child under the
-  -- next symbol goes on along the way, and all other children are samples
+  -- the tree is built along a path that leaves the pair (p, q): its listed pairs are led to by their symbols; the first child under the
+  -- next symbol goes on along the path, and all other children are samples
   abbrev mutual
     pub Built : Kind → ℕ → ℕ → List Listed → Tree → Type 0
     Built k p q [] (node v cs) = AtEnd k p q v (word cs) × Samples A p cs
-    Built k p q (e ∷ way) (node v cs) = OnWay p e.symbol v (word cs) × LeadsTo p q e × GoesOn k p e way cs
+    Built k p q (e ∷ path) (node v cs) = OnPath p e.symbol v (word cs) × LeadsTo p q e × HoldsPart k p e path cs
 
     -- the first child under the symbol goes on
-    pub GoesOn : Kind → ℕ → Listed → List Listed → Children → Type 0
-    GoesOn k p e way none = ⊥
-    GoesOn k p e way (child a t cs) =
-        ((a ≡ e.symbol) × Built k e.first e.second way t × Samples A p cs)
-        ⊎ ((a ≡ e.symbol → ⊥) × Samples A p (child a t none) × GoesOn k p e way cs)
+    pub HoldsPart : Kind → ℕ → Listed → List Listed → Children → Type 0
+    HoldsPart k p e path none = ⊥
+    HoldsPart k p e path (child a t cs) =
+        ((a ≡ e.symbol) × Built k e.first e.second path t × Samples A p cs)
+        ⊎ ((a ≡ e.symbol → ⊥) × Samples A p (child a t none) × HoldsPart k p e path cs)
 
-  -- the document of a list of pairs, for entry i broken in a kind: it is built along the way from the first entry, which is the pair (0, 0)
-  pub record DocumentOf (k : Kind) (es : List Listed) (i : ℕ) (way : List Listed) (t : Tree) : Type 0 where
+  -- the document of a list of pairs, for entry i broken in a kind: it is built along the path from the first entry, which is the pair (0, 0)
+  pub record DocumentOf (k : Kind) (es : List Listed) (i : ℕ) (path : List Listed) (t : Tree) : Type 0 where
     pub first : Listed
     pub listed : slice_get es 0 ≡ Some first
     pub starts : (first.first ≡ 0) × (first.second ≡ 0)
-    pub leads : PairPath es i way
-    pub built : Built k 0 0 way t
+    pub leads : PairPath es i path
+    pub built : Built k 0 0 path t
 
 -- a document is accepted by the first automaton, and not by the second
 unfoldable pub TellsApart : Type 0

@@ -1,7 +1,7 @@
+pub mod Contexts
 pub mod Documents
-pub mod Forks
 pub mod Laws
 pub mod Nodes
-pub mod Passing
+pub mod PathNodes
 pub mod Steps
 pub mod Writing

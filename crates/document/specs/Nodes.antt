@@ -1,4 +1,4 @@
--- Nodes of a document, what they begin with: the value and the children's symbols of one on the way, and of the one at its end. Assumes nothing.
+-- Nodes of a document, what they begin with: the value and the children's symbols of one on the path, and of the one at its end. Assumes nothing.
 use Rattle.std.specs.Prelude.{◌≡◌, ℕ, ◌<◌, Bool, true, List, ◌∷◌, ◌++◌, length, Some, None, Option, slice_index}
 use Rattle.std.specs.Borrow.{Bor}
 use Rattle.domain.specs.Sets.{Smallest}
@@ -13,9 +13,9 @@ use Rattle.document.specs.declared.counterexample.TheConstants.{NODE_SYMBOLS}
 use Rattle.samples.specs.Kept.{HasSamples}
 
 -- the value and the symbols have the property; none, where nothing has it
-abbrev pub Answered : (ℕ → List ℕ → Type 0) → Option (Node NODE_SYMBOLS) → Type 0
-Answered P (Some n) = P n.value n.word
-Answered P None = (v : ℕ) (w : List ℕ) → P v w → ⊥
+abbrev pub NodeOrNone : (ℕ → List ℕ → Type 0) → Option (Node NODE_SYMBOLS) → Type 0
+NodeOrNone P (Some n) = P n.value n.word
+NodeOrNone P None = (v : ℕ) (w : List ℕ) → P v w → ⊥
 
 -- the least value of a state, and the shortest live sequence that passes the test, of equally short ones the first
 abbrev pub LeastWith : Automaton → ℕ → (List ℕ → Bool) → ℕ → List ℕ → Type 0

@@ -12,11 +12,11 @@ use Rattle.compare.specs.declared.pairs.Listed.{Listed}
 use Rattle.compare.specs.declared.phase.Kind.{Kind}
 use Rattle.document.specs.declared.trace.Step.{Step}
 use Rattle.document.specs.Documents.{Built, DocumentOf}
-use Rattle.document.specs.Forks.{Fork, fork_bytes, head, tail}
+use Rattle.document.specs.Contexts.{Context, context_bytes, bytes_before, bytes_after}
 
 -- the level of the pair at a place of the list
-abbrev pub mark : ℕ → Level NodeKey
-mark i = record { left = 0; at = Pair i }
+abbrev pub level_at : ℕ → Level NodeKey
+level_at i = record { left = 0; at = Pair i }
 
 -- the listed pair at i is led to by the listed pair x
 pub record LedFrom (es : List Listed) (i : ℕ) (e x : Listed) : Type 0 where
@@ -30,36 +30,36 @@ pub record PathStep (A B : Automaton) (es : List Listed) : Type 0 where
   pub pair : Listed
   pub from : Listed
   pub led : LedFrom es place pair from
-  pub fork : Fork A B from.first from.second pair
+  pub context : Context A B from.first from.second pair
 
 module _ {A B : Automaton} {es : List Listed} where
   -- the levels of the steps' pairs
-  abbrev pub marks : List (PathStep A B es) → List (Level NodeKey)
-  marks steps = map (λ s. mark s.place) steps
+  abbrev pub levels_of : List (PathStep A B es) → List (Level NodeKey)
+  levels_of steps = map (λ s. level_at s.place) steps
 
   -- the bytes before the tree that the path goes on to, where these are the steps from its last one back
-  abbrev pub heads : List (PathStep A B es) → List ℕ
-  heads [] = []
-  heads (s ∷ steps) = heads steps ++ head A B s.fork
+  abbrev pub all_before : List (PathStep A B es) → List ℕ
+  all_before [] = []
+  all_before (s ∷ steps) = all_before steps ++ bytes_before A B s.context
 
   -- and those after it
-  abbrev pub tails : List (PathStep A B es) → List ℕ
-  tails [] = []
-  tails (s ∷ steps) = tail A B s.fork ++ tails steps
+  abbrev pub all_after : List (PathStep A B es) → List ℕ
+  all_after [] = []
+  all_after (s ∷ steps) = bytes_after A B s.context ++ all_after steps
 
 module _ (A B : Automaton) (es : List Listed) where
   -- one step back from the pair at i: where it comes to, and the bytes of the node there but for the tree of the child that goes on; none,
   -- where no node goes on so
   abbrev pub StepsBack : ℕ → Option Step → Type 0
   StepsBack i (Some s) =
-      (p : PathStep A B es) × (p.place ≡ i) × (s.at ≡ p.pair.parent) × (s.size ≡ fork_bytes A B p.fork)
-  StepsBack i None = (e x : Listed) → LedFrom es i e x → Fork A B x.first x.second e → ⊥
+      (p : PathStep A B es) × (p.place ≡ i) × (s.at ≡ p.pair.parent) × (s.size ≡ context_bytes A B p.context)
+  StepsBack i None = (e x : Listed) → LedFrom es i e x → Context A B x.first x.second e → ⊥
 
   -- the bytes needed for the tree that is built from the pair at i on, which is broken in a kind; none, where there is no such tree
-  abbrev pub EndsAt : Kind → ℕ → Option ℕ → Type 0
-  EndsAt k i (Some size) =
+  abbrev pub EndBytes : Kind → ℕ → Option ℕ → Type 0
+  EndBytes k i (Some size) =
       (x : Listed) × (t : Tree) × (slice_get es i ≡ Some x) × Built A B k x.first x.second [] t × (size ≡ needed t)
-  EndsAt k i None =
+  EndBytes k i None =
       (x : Listed) (t : Tree) → slice_get es i ≡ Some x → Built A B k x.first x.second [] t → ⊥
 
   -- what is found of the pair at i, which is broken in a kind: the document, the bytes needed for it, and the levels of the path to it, its
@@ -71,12 +71,12 @@ module _ (A B : Automaton) (es : List Listed) where
     pub bytes : size ≡ needed tree
     pub steps : List (PathStep A B es)
     pub few : length steps ≤ i
-    pub marked : levels ≡ marks steps
+    pub marked : levels ≡ levels_of steps
     pub last : Listed
     pub listed : slice_get es i ≡ Some last
     pub part : Tree
     pub ends : Built A B k last.first last.second [] part
-    pub parted : tree_bytes tree ≡ heads steps ++ (tree_bytes part ++ tails steps)
+    pub parted : tree_bytes tree ≡ all_before steps ++ (tree_bytes part ++ all_after steps)
 
   -- or there is no document
   abbrev pub TracesBack : Kind → ℕ → Option ℕ → List (Level NodeKey) → Type 0

@@ -29,27 +29,27 @@ abbrev pub short_levels : ℕ → Option Refusal
 short_levels levels = cond (nat_lt levels LEVELS) (Some (record { fault = Scratch; place = LEVELS })) None
 
 -- what keeps sound schemas from a document of the claim with these numbers, which lends so many row pairs and levels
-abbrev pub kept_from : View → Tables → Tables → Numbers → ℕ → ℕ → Option Refusal
-kept_from w T U claim slots levels = first_of (write_kept_from w T U claim slots ∷ short_levels levels ∷ [])
+abbrev pub document_kept_from : View → Tables → Tables → Numbers → ℕ → ℕ → Option Refusal
+document_kept_from w T U claim slots levels = first_of (write_kept_from w T U claim slots ∷ short_levels levels ∷ [])
 
 -- the refusal before any document is looked for, in the order of the tests
 abbrev pub early_refusal : View → Tables → Tables → Numbers → ℕ → ℕ → Option Refusal
-early_refusal w T U claim slots levels = first_of (either_fault T U ∷ kept_from w T U claim slots levels ∷ [])
+early_refusal w T U claim slots levels = first_of (either_fault T U ∷ document_kept_from w T U claim slots levels ∷ [])
 
--- the tree is the document of the area's broken pair on two automata, along this way
+-- the tree is the document of the area's broken pair on two automata, along this path
 abbrev pub DocumentIn : Automaton → Automaton → View → List Listed → Tree → Type 0
-DocumentIn A B w way t = (k : Kind) × (w.phase ≡ phase.Apart k) × DocumentOf A B k w.pairs (broken_index w) way t
+DocumentIn A B w path t = (k : Kind) × (w.phase ≡ phase.Apart k) × DocumentOf A B k w.pairs (broken_index w) path t
 
 -- `schemas`: the automata have no document along the trail, since they do not lead along it through the listed pairs, or lack a value or a
 -- sequence that it needs
 abbrev pub NoDocument : Automaton → Automaton → View → Type 0
-NoDocument A B w = (way : List Listed) (t : Tree) → DocumentIn A B w way t → ⊥
+NoDocument A B w = (path : List Listed) (t : Tree) → DocumentIn A B w path t → ⊥
 
 -- there is a document
-pub record Found (A B : Automaton) (w : View) : Type 0 where
-  pub way : List Listed
+pub record FoundDocument (A B : Automaton) (w : View) : Type 0 where
+  pub path : List Listed
   pub tree : Tree
-  pub document : DocumentIn A B w way tree
+  pub document : DocumentIn A B w path tree
 
 -- the tree's bytes stand at the output's front and the rest is as found, and their number is told
 abbrev pub TreeWritten : Tree → List ℕ → ℕ → List ℕ → Type 0
@@ -68,10 +68,10 @@ TreeAnswer t output (Err e) output' = TreeTooLong t output e × (output' ≡ out
 
 -- what is answered where nothing is refused before: what is answered of the document; or `schemas`, and the output as found
 abbrev pub DocumentAnswer : Automaton → Automaton → View → List ℕ → Result ℕ Refusal → List ℕ → Type 0
-DocumentAnswer A B w output (Ok n) output' = (d : Found A B w) × TreeWritten d.tree output n output'
+DocumentAnswer A B w output (Ok n) output' = (d : FoundDocument A B w) × TreeWritten d.tree output n output'
 DocumentAnswer A B w output (Err e) output' =
     ((NoDocument A B w × (e ≡ record { fault = Schemas; place = w.serial }))
-    ⊎ ((d : Found A B w) × TreeTooLong d.tree output e))
+    ⊎ ((d : FoundDocument A B w) × TreeTooLong d.tree output e))
     × (output' ≡ output)
 
 -- the one outcome: the first refusal, which leaves the output as found, or what is answered of the document

@@ -3,8 +3,8 @@ ghost use Rattle.compare.specs.declared.phase.Kind.TheVariants.{Value};
 ghost use Rattle.compare.specs.Schemas.{StatePair};
 ghost use Rattle.schema.specs.Meaning.{meaning, IsState};
 ghost use Rattle.search.specs.Watching.{wanted};
-ghost use Rattle.document.specs.Documents.{AtEnd, OnWay};
-ghost use Rattle.document.specs.Nodes.{Answered, Around, FirstPlace, LeastWith, Ready};
+ghost use Rattle.document.specs.Documents.{AtEnd, OnPath};
+ghost use Rattle.document.specs.Nodes.{NodeOrNone, Around, FirstPlace, LeastWith, Ready};
 
 use bits::sets::has_member;
 use compare::compared::Compared;
@@ -57,7 +57,7 @@ impl<D: Domain> Counterexample<'_, '_, '_, '_, '_, D> {
     ) -> Option<Node<NODE_SYMBOLS>>
         ensures { Ready D.Domain.holds self.now → IsState self.now.compared.first.now state →
             let A = meaning D.Domain.holds self.now.compared.first.now in
-            Answered (LeastWith A state (wanted (W.Watcher.watching watcher.now))) result }
+            NodeOrNone (LeastWith A state (wanted (W.Watcher.watching watcher.now))) result }
     {
         let tested = self.compared.first;
         let value = tested.least(state)?;
@@ -81,7 +81,7 @@ impl<D: Domain> Counterexample<'_, '_, '_, '_, '_, D> {
         ensures { Ready D.Domain.holds self.now → IsState self.now.compared.first.now state →
             let A = meaning D.Domain.holds self.now.compared.first.now in
             let B = meaning D.Domain.holds self.now.compared.second.now in
-            Answered (OnWay A B state symbol) result }
+            NodeOrNone (OnPath A B state symbol) result }
     {
         self.least_with(state, &Holding::new(symbol), slots)
     }
@@ -92,7 +92,7 @@ impl<D: Domain> Counterexample<'_, '_, '_, '_, '_, D> {
         ensures { Ready D.Domain.holds self.now → StatePair self.now.compared pair.first pair.second →
             let A = meaning D.Domain.holds self.now.compared.first.now in
             let B = meaning D.Domain.holds self.now.compared.second.now in
-            Answered (AtEnd A B Value pair.first pair.second) result }
+            NodeOrNone (AtEnd A B Value pair.first pair.second) result }
     {
         if !has_member(self.compared.live, pair.first) {
             return None;
@@ -108,7 +108,7 @@ impl<D: Domain> Counterexample<'_, '_, '_, '_, '_, D> {
         ensures { Ready D.Domain.holds self.now → StatePair self.now.compared pair.first pair.second →
             let A = meaning D.Domain.holds self.now.compared.first.now in
             let B = meaning D.Domain.holds self.now.compared.second.now in
-            Answered (AtEnd A B self.now.kind pair.first pair.second) result }
+            NodeOrNone (AtEnd A B self.now.kind pair.first pair.second) result }
     {
         match self.kind {
             Kind::Value => self.gap_node(pair),

@@ -11,7 +11,7 @@ ghost use Rattle.document.specs.declared.document.TheConstants.{LEVELS};
 ghost use Rattle.document.specs.Laws.{DocumentLaws, DocumentLimits};
 ghost use Rattle.document.specs.Nodes.{Ready};
 ghost use Rattle.document.specs.Steps.{Traced};
-ghost use Rattle.document.specs.Writing.{Documenting, DocumentAnswer, TreeAnswer, kept_from};
+ghost use Rattle.document.specs.Writing.{Documenting, DocumentAnswer, TreeAnswer, document_kept_from};
 
 use crate::counterexample::Counterexample;
 use codec::item::Level;
@@ -32,7 +32,7 @@ use schema::tested::Tested;
 use search::pairs::RowPair;
 use search::slots::RowSlots;
 
-/// How many levels have to be lent: one for each pair that a way can have, and one for each level of a sample.
+/// How many levels have to be lent: one for each pair that a path can have, and one for each level of a sample.
 pub const LEVELS: usize = PLACES + STATES;
 
 /// The row pairs for a document of the claim, or what keeps two schemas from it before any is looked for: `symbols`, `foreign`, `ousted`,
@@ -46,7 +46,7 @@ fn permits<'a, D>(
     levels: usize,
 ) -> Result<RowSlots<'a>, Refusal>
     ensures { Refuses
-        (kept_from (view area.now) (tables_of first.now) (tables_of second.now) claim (length scratch.old) levels)
+        (document_kept_from (view area.now) (tables_of first.now) (tables_of second.now) claim (length scratch.old) levels)
         result }
 {
     let slots = permits_write(area, first, second, claim, scratch)?;

@@ -9,9 +9,9 @@ ghost use Rattle.compare.specs.declared.pairs.TheConstants.{PLACES};
 ghost use Rattle.compare.specs.declared.pairs.Listed.{Listed as ListedPair};
 ghost use Rattle.compare.specs.Listing.{entries_of};
 ghost use Rattle.document.specs.Documents.{LeadsTo};
-ghost use Rattle.document.specs.Forks.{Fork, fork_bytes};
+ghost use Rattle.document.specs.Contexts.{Context, context_bytes};
 ghost use Rattle.document.specs.Nodes.{Ready};
-ghost use Rattle.document.specs.Steps.{EndsAt, StepsBack, TracesBack};
+ghost use Rattle.document.specs.Steps.{EndBytes, StepsBack, TracesBack};
 
 use crate::counterexample::{Counterexample, NODE_SYMBOLS, around};
 use codec::item::Level;
@@ -46,7 +46,7 @@ impl<D: Domain> Counterexample<'_, '_, '_, '_, '_, D> {
     }
 
     /// How many bytes a node on the path has but for the tree of the child that goes on, up to TOO_LONG.
-    fn fork_size(
+    fn context_size(
         &self,
         state: u8,
         node: &Node<NODE_SYMBOLS>,
@@ -57,10 +57,10 @@ impl<D: Domain> Counterexample<'_, '_, '_, '_, '_, D> {
         ensures { Ready D.Domain.holds self.now → IsState self.now.compared.first.now state →
             let A = meaning D.Domain.holds self.now.compared.first.now in
             let B = meaning D.Domain.holds self.now.compared.second.now in
-            (q : ℕ) (e : ListedPair) (f : Fork A B state q e) → e.symbol ≡ symbol →
+            (q : ℕ) (e : ListedPair) (f : Context A B state q e) → e.symbol ≡ symbol →
             f.value ≡ node.now.value → word_of f.before ++ e.symbol ∷ word_of f.after ≡ node.now.word →
             word_of f.before ≡ before.now → word_of f.after ≡ after.now →
-            result ≡ fork_bytes A B f }
+            result ≡ context_bytes A B f }
     {
         let tested = self.compared.first;
         let numbers = number_length(node.value)
@@ -99,7 +99,7 @@ impl<D: Domain> Counterexample<'_, '_, '_, '_, '_, D> {
         }
         let node = self.node_on_path(from.first, pair.symbol, slots)?;
         let (before, after) = around(node.word.as_slice(), pair.symbol)?;
-        let size = self.fork_size(from.first, &node, pair.symbol, before, after);
+        let size = self.context_size(from.first, &node, pair.symbol, before, after);
         Some(Step { at, size })
     }
 
@@ -108,7 +108,7 @@ impl<D: Domain> Counterexample<'_, '_, '_, '_, '_, D> {
         ensures { Ready D.Domain.holds self.now →
             let A = meaning D.Domain.holds self.now.compared.first.now in
             let B = meaning D.Domain.holds self.now.compared.second.now in
-            EndsAt A B (entries_of self.now.pairs.now) self.now.kind place result }
+            EndBytes A B (entries_of self.now.pairs.now) self.now.kind place result }
     {
         let pair = self.pairs.entry(place)?;
         let node = self.node_at_end(pair, slots)?;

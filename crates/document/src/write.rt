@@ -12,10 +12,10 @@ ghost use Rattle.samples.specs.Writing.{Leaves};
 ghost use Rattle.compare.specs.declared.pairs.Listed.{Listed as ListedPair};
 ghost use Rattle.compare.specs.Listing.{entries_of};
 ghost use Rattle.document.specs.Documents.{Built};
-ghost use Rattle.document.specs.Forks.{head, tail};
+ghost use Rattle.document.specs.Contexts.{bytes_before, bytes_after};
 ghost use Rattle.document.specs.Nodes.{Ready};
-ghost use Rattle.document.specs.Passing.{passage_of};
-ghost use Rattle.document.specs.Steps.{PathStep, Traced, mark, marks, heads, tails};
+ghost use Rattle.document.specs.PathNodes.{path_node_of};
+ghost use Rattle.document.specs.Steps.{PathStep, Traced, level_at, levels_of, all_before, all_after};
 
 use crate::counterexample::{Counterexample, NODE_SYMBOLS, around};
 use codec::item::Level;
@@ -28,7 +28,7 @@ use search::slots::RowSlots;
 
 /// A node on the path: its state in the first schema, the symbol by which the path goes on, and what it begins with.
 #[derive(Clone, Copy)]
-struct Passage {
+struct PathNode {
     state: u8,
     symbol: u8,
     node: Node<NODE_SYMBOLS>,
@@ -36,12 +36,12 @@ struct Passage {
 
 impl<D: Domain> Counterexample<'_, '_, '_, '_, '_, D> {
     /// The node from which the path goes on to the pair of a level.
-    fn passage(&self, level: Level<NodeKey>, slots: &mut RowSlots) -> Option<Passage>
+    fn path_node(&self, level: Level<NodeKey>, slots: &mut RowSlots) -> Option<PathNode>
         ensures { Ready D.Domain.holds self.now →
             let A = meaning D.Domain.holds self.now.compared.first.now in
             let B = meaning D.Domain.holds self.now.compared.second.now in
-            (s : PathStep A B (entries_of self.now.pairs.now)) → level ≡ mark s.place →
-            result ≡ Some (passage_of s) }
+            (s : PathStep A B (entries_of self.now.pairs.now)) → level ≡ level_at s.place →
+            result ≡ Some (path_node_of s) }
     {
         let NodeKey::Pair(place) = level.at else {
             return None;
@@ -49,7 +49,7 @@ impl<D: Domain> Counterexample<'_, '_, '_, '_, '_, D> {
         let pair = self.pairs.entry(usize::from(place))?;
         let from = self.pairs.entry(usize::from(pair.parent))?;
         let node = self.node_on_path(from.first, pair.symbol, slots)?;
-        Some(Passage {
+        Some(PathNode {
             state: from.first,
             symbol: pair.symbol,
             node,
@@ -84,39 +84,39 @@ impl<D: Domain> Counterexample<'_, '_, '_, '_, '_, D> {
     /// symbol.
     fn write_before(
         &self,
-        passage: &Passage,
+        path_node: &PathNode,
         levels: &mut Pile<Level<NodeKey>>,
         output: &mut Output,
     ) -> Option<()>
         ensures written { Ready D.Domain.holds self.now → STATES ≤ length levels.old.free →
             let A = meaning D.Domain.holds self.now.compared.first.now in
             let B = meaning D.Domain.holds self.now.compared.second.now in
-            (s : PathStep A B (entries_of self.now.pairs.now)) → passage.now ≡ passage_of s →
-            Leaves (head A B s.fork) levels.old.entries output.old result levels.new output.new }
+            (s : PathStep A B (entries_of self.now.pairs.now)) → path_node.now ≡ path_node_of s →
+            Leaves (bytes_before A B s.context) levels.old.entries output.old result levels.new output.new }
         ensures slots { slots_of levels.new ≡ slots_of levels.old }
     {
-        let (before, _) = around(passage.node.word.as_slice(), passage.symbol)?;
-        output.head(passage.node.value, passage.node.word.len() as u32)?;
-        self.write_samples(passage.state, before, levels, output)?;
-        output.number(u32::from(passage.symbol))
+        let (before, _) = around(path_node.node.word.as_slice(), path_node.symbol)?;
+        output.head(path_node.node.value, path_node.node.word.len() as u32)?;
+        self.write_samples(path_node.state, before, levels, output)?;
+        output.number(u32::from(path_node.symbol))
     }
 
     /// Writes what it has after that tree: the children after.
     fn write_after(
         &self,
-        passage: &Passage,
+        path_node: &PathNode,
         levels: &mut Pile<Level<NodeKey>>,
         output: &mut Output,
     ) -> Option<()>
         ensures written { Ready D.Domain.holds self.now → STATES ≤ length levels.old.free → Within output.old →
             let A = meaning D.Domain.holds self.now.compared.first.now in
             let B = meaning D.Domain.holds self.now.compared.second.now in
-            (s : PathStep A B (entries_of self.now.pairs.now)) → passage.now ≡ passage_of s →
-            Leaves (tail A B s.fork) levels.old.entries output.old result levels.new output.new }
+            (s : PathStep A B (entries_of self.now.pairs.now)) → path_node.now ≡ path_node_of s →
+            Leaves (bytes_after A B s.context) levels.old.entries output.old result levels.new output.new }
         ensures slots { slots_of levels.new ≡ slots_of levels.old }
     {
-        let (_, after) = around(passage.node.word.as_slice(), passage.symbol)?;
-        self.write_samples(passage.state, after, levels, output)
+        let (_, after) = around(path_node.node.word.as_slice(), path_node.symbol)?;
+        self.write_samples(path_node.state, after, levels, output)
     }
 
     /// Writes what the nodes on the path have before the trees of the children that go on, from the first node down. The levels are those of
@@ -130,13 +130,13 @@ impl<D: Domain> Counterexample<'_, '_, '_, '_, '_, D> {
         ensures written { Ready D.Domain.holds self.now → STATES ≤ length levels.old.free → Within output.old →
             let A = meaning D.Domain.holds self.now.compared.first.now in
             let B = meaning D.Domain.holds self.now.compared.second.now in
-            (steps : List (PathStep A B (entries_of self.now.pairs.now))) → levels.old.entries ≡ marks steps →
-            Leaves (heads steps) levels.old.entries output.old result levels.new output.new }
+            (steps : List (PathStep A B (entries_of self.now.pairs.now))) → levels.old.entries ≡ levels_of steps →
+            Leaves (all_before steps) levels.old.entries output.old result levels.new output.new }
         ensures slots { slots_of levels.new ≡ slots_of levels.old }
     {
         for index in (0..levels.len()).rev() {
-            let passage = self.passage(levels.read(index)?, slots)?;
-            self.write_before(&passage, levels, output)?;
+            let path_node = self.path_node(levels.read(index)?, slots)?;
+            self.write_before(&path_node, levels, output)?;
         }
         Some(())
     }
@@ -151,13 +151,13 @@ impl<D: Domain> Counterexample<'_, '_, '_, '_, '_, D> {
         ensures written { Ready D.Domain.holds self.now → STATES ≤ length levels.old.free → Within output.old →
             let A = meaning D.Domain.holds self.now.compared.first.now in
             let B = meaning D.Domain.holds self.now.compared.second.now in
-            (steps : List (PathStep A B (entries_of self.now.pairs.now))) → levels.old.entries ≡ marks steps →
-            Leaves (tails steps) levels.old.entries output.old result levels.new output.new }
+            (steps : List (PathStep A B (entries_of self.now.pairs.now))) → levels.old.entries ≡ levels_of steps →
+            Leaves (all_after steps) levels.old.entries output.old result levels.new output.new }
         ensures slots { slots_of levels.new ≡ slots_of levels.old }
     {
         for index in 0..levels.len() {
-            let passage = self.passage(levels.read(index)?, slots)?;
-            self.write_after(&passage, levels, output)?;
+            let path_node = self.path_node(levels.read(index)?, slots)?;
+            self.write_after(&path_node, levels, output)?;
         }
         Some(())
     }

@@ -8,7 +8,7 @@ use Rattle.codec.specs.Trees.{Tree, Children, none, child, word, height, heights
 use Rattle.schema.specs.Automata.{Automaton}
 use Rattle.samples.specs.declared.output.Output.{Output}
 use Rattle.samples.specs.Samples.{Sample, Samples}
-use Rattle.samples.specs.Outputs.{Within, Added}
+use Rattle.samples.specs.Outputs.{Within, Appended}
 use Rattle.samples.proofs.Outputs.{added_none, added_more, crowded_more, crowded_front}
 
 -- the first child under some symbols, of which there are more than none
@@ -34,7 +34,7 @@ module _ (A : Automaton) (q : ℕ) (w : List ℕ) (free : ℕ) (before : Output)
     pub symbols : word left ≡ drop i w
     pub samples : Samples A q left
     pub fits : heights left ≤ free
-    pub added : Added done before output
+    pub added : Appended done before output
 
   -- at the start all are left
   pub unwritten : (cs : Children) → Samples A q cs → word cs ≡ w → heights cs ≤ free → Within before → bytes ≡ children_bytes cs → Partly 0 before
@@ -42,10 +42,10 @@ module _ (A : Automaton) (q : ℕ) (w : List ℕ) (free : ℕ) (before : Output)
       record { done = []; left = cs; whole = is; symbols = symbols; samples = s; fits = fits; added = added_none before within }
 
   -- at the end none are
-  pub all_written : (i : ℕ) (output : Output) → length w ≤ i → Partly i output → Added bytes before output
+  pub all_written : (i : ℕ) (output : Output) → length w ≤ i → Partly i output → Appended bytes before output
   all_written i output past p =
       let over : word p.left ≡ [] = p.symbols ∙ drop_of_length-le w past in
-      subst (λ (l : List ℕ). Added l before output) (sym (p.whole ∙ ap (λ (cs : Children). p.done ++ children_bytes cs) (none_left p.left over) ∙ append-nil p.done)) p.added
+      subst (λ (l : List ℕ). Appended l before output) (sym (p.whole ∙ ap (λ (cs : Children). p.done ++ children_bytes cs) (none_left p.left over) ∙ append-nil p.done)) p.added
     where
       none_left : (cs : Children) → word cs ≡ [] → cs ≡ none
       none_left none is = refl
@@ -98,7 +98,7 @@ module _ (A : Automaton) (q : ℕ) (w : List ℕ) (free : ℕ) (before : Output)
         subst (λ (l : List ℕ). length before.bytes.now < before.place + length l) (sym (split ∙ append_assoc (p.done ++ symbol) (tree_bytes n.tree) (children_bytes n.others)))
         (crowded_front (p.done ++ symbol) (tree_bytes n.tree ++ children_bytes n.others) before (crowded_more p.done symbol before output p.added short))
 
-    module _ (middle : Output) (written : Added symbol output middle) where
+    module _ (middle : Output) (written : Appended symbol output middle) where
       -- or its tree
       pub crowded_tree : length middle.bytes.now < middle.place + length (tree_bytes n.tree) → length before.bytes.now < before.place + length bytes
       crowded_tree short =
@@ -106,7 +106,7 @@ module _ (A : Automaton) (q : ℕ) (w : List ℕ) (free : ℕ) (before : Output)
           (crowded_front ((p.done ++ symbol) ++ tree_bytes n.tree) (children_bytes n.others) before (crowded_more (p.done ++ symbol) (tree_bytes n.tree) before middle (added_more p.done symbol before output p.added middle written) short))
 
       -- the child is written
-      pub one_more : (after : Output) → Added (tree_bytes n.tree) middle after → Partly (i + 1) after
+      pub one_more : (after : Output) → Appended (tree_bytes n.tree) middle after → Partly (i + 1) after
       one_more after tree =
           record {
             done = (p.done ++ symbol) ++ tree_bytes n.tree;

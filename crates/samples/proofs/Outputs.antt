@@ -4,10 +4,10 @@ use Rattle.std.proofs.lemmas.List.{length-append}
 use Rattle.codec.specs.Numbers.{overwritten}
 use Rattle.codec.proofs.Writing.{over_none, over_length, over_join}
 use Rattle.samples.specs.declared.output.Output.{Output}
-use Rattle.samples.specs.Outputs.{Within, Added, Adds}
+use Rattle.samples.specs.Outputs.{Within, Appended, Appends}
 
 -- nothing written
-pub added_none : (s : Output) → Within s → Added [] s s
+pub added_none : (s : Output) → Within s → Appended [] s s
 added_none s within =
     record {
       written = record {
@@ -19,16 +19,16 @@ added_none s within =
     }
 
 -- an output stays as long as it is
-pub added_length : (bytes : List ℕ) (before after : Output) → Added bytes before after → length after.bytes.now ≡ length before.bytes.now
+pub added_length : (bytes : List ℕ) (before after : Output) → Appended bytes before after → length after.bytes.now ≡ length before.bytes.now
 added_length bytes before after w = ap length w.written.after ∙ over_length before.bytes.now before.place bytes w.written.room
 
 -- and its place stays in it
-pub added_within : (bytes : List ℕ) (before after : Output) → Added bytes before after → Within after
+pub added_within : (bytes : List ℕ) (before after : Output) → Appended bytes before after → Within after
 added_within bytes before after w = omega (arith, added_length bytes before after w, w.written.room, w.written.next_place)
 
-module _ (some more : List ℕ) (before middle : Output) (w : Added some before middle) where
+module _ (some more : List ℕ) (before middle : Output) (w : Appended some before middle) where
   -- more bytes behind some
-  pub added_more : (after : Output) → Added more middle after → Added (some ++ more) before after
+  pub added_more : (after : Output) → Appended more middle after → Appended (some ++ more) before after
   added_more after x =
       record {
         written = record {
@@ -46,7 +46,7 @@ module _ (some more : List ℕ) (before middle : Output) (w : Added some before 
   pub crowded_more : length middle.bytes.now < middle.place + length more → length before.bytes.now < before.place + length (some ++ more)
   crowded_more short = omega (arith, length-append some more, added_length some before middle w, w.written.next_place, short)
 
-  pub adds_more : (r : Option (Unit {0})) (after : Output) → Adds more middle r after → Adds (some ++ more) before r after
+  pub adds_more : (r : Option (Unit {0})) (after : Output) → Appends more middle r after → Appends (some ++ more) before r after
   adds_more (Some u) after x = added_more after x
   adds_more None after short = crowded_more short
 

@@ -1,5 +1,5 @@
 -- The bytes of samples, counted up to TOO_LONG. Assumes nothing.
-use Rattle.std.proofs.Common.{◌≡◌, ℕ, ◌+◌, ◌<◌, ◌≤◌, min, ◌⊎◌, List, ◌∷◌, sum, map, length, take, set, get_or, Some, Option, sym, refl, ap, ◌∙◌, subst, inl, inr, ⊎_elim, arith, get_or-set_same, get_or-set_other, length-set}
+use Rattle.std.proofs.Common.{◌≡◌, ℕ, ◌+◌, ◌<◌, ◌≤◌, min, ◌⊎◌, List, ◌∷◌, sum, map, length, take, set, get_or, Some, sym, refl, ap, ◌∙◌, subst, inl, inr, ⊎_elim, arith, get_or-set_same, get_or-set_other, length-set}
 use Rattle.std.specs.List.{AllByRecursion}
 use Rattle.std.proofs.lemmas.Bool.{cases_eq, cases_lt}
 use Rattle.std.specs.Option.{MatchOption}
@@ -17,7 +17,7 @@ use Rattle.samples.specs.declared.samples.Samples.{Samples as Kept}
 use Rattle.samples.specs.declared.size.TheConstants.{TOO_LONG}
 use Rattle.search.proofs.Orders.{one_first}
 use Rattle.samples.specs.Samples.{LowerSequence, Sample, Samples}
-use Rattle.samples.specs.Kept.{child_bytes, needed, noted_at, number_of, node_bytes, HasRoots, Root, RootOf, Sampled, SampledBelow, SizedBelow}
+use Rattle.samples.specs.Kept.{child_bytes, needed, noted_at, size_at, node_bytes, HasRoots, Root, RootOf, Sampled, SampledBelow, SizedBelow}
 use Rattle.samples.proofs.Growing.{HaveRoots, Inside, one_rank}
 use Rattle.samples.proofs.Lengths.{child_length, tree_length}
 use Rattle.samples.proofs.Ranking.{LeadsLower, noted_ranked, rank_noted}
@@ -34,7 +34,7 @@ module _ (A : Automaton) (sizes : List ℕ) (q : ℕ) where
   -- at the state of each child the bytes needed for its tree are noted
   abbrev pub AllSized : Children → Type 0
   AllSized none = Unit {0}
-  AllSized (child a t cs) = (number_of sizes (A.next q a) ≡ needed t) × AllSized cs
+  AllSized (child a t cs) = (size_at sizes (A.next q a) ≡ needed t) × AllSized cs
 
   -- then the bytes counted are those of the children
   pub children_counted : (cs : Children) → AllSized cs → min (sum (map (child_bytes A sizes q) (word cs))) TOO_LONG ≡ min (length (children_bytes cs)) TOO_LONG
@@ -54,8 +54,8 @@ module _ (A : Automaton) (sizes : List ℕ) (q : ℕ) where
       omega (arith, first, second, below, tree_length v cs, children_counted cs all)
 
   -- the size of a child is noted at the state that its symbol leads to
-  child_sized : (a s : ℕ) (t : Tree) → A.next q a ≡ Some s → slice_index sizes s ≡ needed t → number_of sizes (A.next q a) ≡ needed t
-  child_sized a s t is noted = ap (number_of sizes) is ∙ noted
+  child_sized : (a s : ℕ) (t : Tree) → A.next q a ≡ Some s → slice_index sizes s ≡ needed t → size_at sizes (A.next q a) ≡ needed t
+  child_sized a s t is noted = ap (size_at sizes) is ∙ noted
 
   -- samples are sized where all live states are
   pub samples_sized : (n : ℕ) → ((p : ℕ) (t : Tree) → p < n → Sample A p t → slice_index sizes p ≡ needed t) → Inside A n → q < n → (cs : Children) → Samples A q cs → AllSized cs

@@ -17,9 +17,9 @@ use Rattle.samples.specs.declared.node.NodeKey.{NodeKey}
 use Rattle.samples.specs.declared.node.NodeKey.TheVariants.{State}
 use Rattle.samples.specs.declared.output.Output.{Output}
 use Rattle.samples.specs.Samples.{LowerSequence, SampleSequence, Sample}
-use Rattle.samples.specs.Writing.{head_bytes, level_of, LastOf, Leaves, Turns}
+use Rattle.samples.specs.Writing.{head_bytes, level_of, LastOf, Leaves, WritesNext}
 use Rattle.samples.specs.Kept.{Root, RootOf}
-use Rattle.samples.specs.Outputs.{Added}
+use Rattle.samples.specs.Outputs.{Appended}
 use Rattle.samples.proofs.Outputs.{added_more, crowded_more}
 use Rattle.samples.proofs.Lengths.{many_symbols}
 use Rattle.samples.proofs.Unique.{one_smallest}
@@ -51,11 +51,11 @@ module _ (v value count : ℕ) (cs : Children) (same : value ≡ v) (counted : c
 
   module _ (before : Output) where
     -- a node begins: its value, its child count, and its level
-    pub begins : (after : Output) (q : ℕ) (levels levels' : Stack (Level NodeKey)) (r : Bool) → Added (number_bytes value ++ number_bytes count) before after → Pushed levels (record { left = count; at = State q }) r levels' → 0 < length levels.free → Leaves (head_bytes v cs) (levels.entries ++ level_of q cs ∷ []) before (then_some r tt) levels' after
+    pub begins : (after : Output) (q : ℕ) (levels levels' : Stack (Level NodeKey)) (r : Bool) → Appended (number_bytes value ++ number_bytes count) before after → Pushed levels (record { left = count; at = State q }) r levels' → 0 < length levels.free → Leaves (head_bytes v cs) (levels.entries ++ level_of q cs ∷ []) before (then_some r tt) levels' after
     begins after q levels levels' r written pushed space =
         let room : r ≡ true = pushed.room ∙ lt-ltb 0 (length levels.free) space in
         subst (λ (b : Bool). Leaves (head_bytes v cs) (levels.entries ++ level_of q cs ∷ []) before (then_some b tt) levels' after) (sym room) (
-          subst (λ (l : List ℕ). Added l before after) heads written,
+          subst (λ (l : List ℕ). Appended l before after) heads written,
           pushed.entries ∙ cond-true r _ _ room ∙ (λ i. levels.entries ++ (record { left = counted i; at = State q }) ∷ []),
         )
 
@@ -89,23 +89,23 @@ first_child none some = absurd (some refl)
 first_child (child a (node v ds) cs) some = record { symbol = a; value = v; below = ds; others = cs; split = refl }
 
 -- bytes added before others, and the levels that the others leave
-pub leaves_more : (some more : List ℕ) (entries : List (Level NodeKey)) (before middle after : Output) (r : Option (Unit {0})) (levels : Stack (Level NodeKey)) → Added some before middle → Leaves more entries middle r levels after → Leaves (some ++ more) entries before r levels after
+pub leaves_more : (some more : List ℕ) (entries : List (Level NodeKey)) (before middle after : Output) (r : Option (Unit {0})) (levels : Stack (Level NodeKey)) → Appended some before middle → Leaves more entries middle r levels after → Leaves (some ++ more) entries before r levels after
 leaves_more some more entries before middle after (Some u) levels w x = (added_more some more before middle w after x.0, x.1)
 leaves_more some more entries before middle after None levels w short = crowded_more some more before middle w short
 
 module _ (A : Automaton) (below : List (Level NodeKey)) (q : ℕ) (cs : Children) (before : Output) where
   -- a node without children left ends
-  pub ends : (levels : Stack (Level NodeKey)) → many cs ≡ 0 → levels.entries ≡ below → Turns A below q cs before (Some tt) levels before
+  pub ends : (levels : Stack (Level NodeKey)) → many cs ≡ 0 → levels.entries ≡ below → WritesNext A below q cs before (Some tt) levels before
   ends levels done popped = by cs done
     where
-      by : (ds : Children) → many ds ≡ 0 → Turns A below q ds before (Some tt) levels before
+      by : (ds : Children) → many ds ≡ 0 → WritesNext A below q ds before (Some tt) levels before
       by none done = (refl, popped, refl)
       by (child a t ds) done = absurd (omega (arith, done))
 
   module _ (f : FirstChild cs) (p : ℕ) (to : A.next q f.symbol ≡ Some p) (after : Output) (levels : Stack (Level NodeKey)) (r : Option (Unit {0})) where
     -- a node with some goes on with the first
-    pub goes_on : Leaves (number_bytes f.symbol ++ head_bytes f.value f.below) (below ++ level_of q f.others ∷ level_of p f.below ∷ []) before r levels after → Turns A below q cs before r levels after
-    goes_on leaves = subst (λ (ds : Children). Turns A below q ds before r levels after) (sym f.split) (p, to, leaves)
+    pub goes_on : Leaves (number_bytes f.symbol ++ head_bytes f.value f.below) (below ++ level_of q f.others ∷ level_of p f.below ∷ []) before r levels after → WritesNext A below q cs before r levels after
+    goes_on leaves = subst (λ (ds : Children). WritesNext A below q ds before r levels after) (sym f.split) (p, to, leaves)
 
 -- the level on top with one child less left
 pub fewer_left : (q : ℕ) (cs : Children) (f : FirstChild cs) (l : Level NodeKey) → l ≡ level_of q cs → record { left = l.left - 1; at = l.at } ≡ level_of q f.others

@@ -11,8 +11,8 @@ use Rattle.schema.specs.Automata.{Automaton}
 use Rattle.samples.specs.declared.node.NodeKey.{NodeKey}
 use Rattle.samples.specs.declared.output.Output.{Output}
 use Rattle.samples.specs.Samples.{SampleSequence, Sample}
-use Rattle.samples.specs.Writing.{head_bytes, level_of, LastOf, Turns}
-use Rattle.samples.specs.Outputs.{Added}
+use Rattle.samples.specs.Writing.{head_bytes, level_of, LastOf, WritesNext}
+use Rattle.samples.specs.Outputs.{Appended}
 use Rattle.samples.proofs.Growing.{Inside}
 use Rattle.samples.proofs.Outputs.{added_more, crowded_more, crowded_front}
 
@@ -72,11 +72,11 @@ module _ (A : Automaton) (n : ℕ) (base : List (Level NodeKey)) where
     pub done : List ℕ
     pub rest : List ℕ
     pub whole : bytes ≡ done ++ rest
-    pub added : Added done before output
+    pub added : Appended done before output
     pub stacked : Stacked levels.entries (length levels.free) rest
 
   -- a sample that has begun
-  pub begun : (q v : ℕ) (cs : Children) → q < n → Sample A q (node v cs) → (before output : Output) (levels levels' : Stack (Level NodeKey)) → levels.entries ≡ base → heights cs < length levels.free → slots levels' ≡ slots levels → Added (head_bytes v cs) before output → levels'.entries ≡ levels.entries ++ level_of q cs ∷ [] → Underway before (tree_bytes (node v cs)) levels' output
+  pub begun : (q v : ℕ) (cs : Children) → q < n → Sample A q (node v cs) → (before output : Output) (levels levels' : Stack (Level NodeKey)) → levels.entries ≡ base → heights cs < length levels.free → slots levels' ≡ slots levels → Appended (head_bytes v cs) before output → levels'.entries ≡ levels.entries ++ level_of q cs ∷ [] → Underway before (tree_bytes (node v cs)) levels' output
   begun q v cs low s before output levels levels' from fits same added on =
       let entries : levels'.entries ≡ base ++ level_of q cs ∷ [] = on ∙ ap (λ (l : List (Level NodeKey)). l ++ level_of q cs ∷ []) from in
       let free : length levels.free ≡ suc (length levels'.free) = omega (arith, same, ap length on, length_push levels.entries (level_of q cs)) in
@@ -91,10 +91,10 @@ module _ (A : Automaton) (n : ℕ) (base : List (Level NodeKey)) where
 
   module _ (inside : Inside A n) (before : Output) (bytes : List ℕ) (levels : Stack (Level NodeKey)) (output : Output) (u : Underway before bytes levels output) where
     -- down at the levels that were there before, all is written
-    pub finished : length levels.entries ≤ length base → Added bytes before output × (levels.entries ≡ base)
+    pub finished : length levels.entries ≤ length base → Appended bytes before output × (levels.entries ≡ base)
     finished low =
         let g = grounded levels.entries (length levels.free) u.rest u.stacked low in (
-          subst (λ (l : List ℕ). Added l before output) (sym (u.whole ∙ ap (λ (l : List ℕ). u.done ++ l) g.1 ∙ append-nil u.done)) u.added,
+          subst (λ (l : List ℕ). Appended l before output) (sym (u.whole ∙ ap (λ (l : List ℕ). u.done ++ l) g.1 ∙ append-nil u.done)) u.added,
           g.0,
         )
 
@@ -108,17 +108,17 @@ module _ (A : Automaton) (n : ℕ) (base : List (Level NodeKey)) where
 
       module _ (levels' : Stack (Level NodeKey)) (output' : Output) where
         -- after a turn it is still so
-        pub turned : slots levels' ≡ slots levels → Turns A top.below top.state top.children output (Some tt) levels' output' → Underway before bytes levels' output'
+        pub turned : slots levels' ≡ slots levels → WritesNext A top.below top.state top.children output (Some tt) levels' output' → Underway before bytes levels' output'
         turned same turns = by top.children refl turns
           where
-            by : (cs : Children) → top.children ≡ cs → Turns A top.below top.state cs output (Some tt) levels' output' → Underway before bytes levels' output'
+            by : (cs : Children) → top.children ≡ cs → WritesNext A top.below top.state cs output (Some tt) levels' output' → Underway before bytes levels' output'
             by none is t =
                 let free : suc (length levels.free) ≡ length levels'.free = omega (arith, same, ap length top.on, length_push top.below (level_of top.state top.children), ap length t.1) in
                 record {
                   done = u.done;
                   rest = top.others;
                   whole = split none is;
-                  added = subst (Added u.done before) (sym t.2) u.added;
+                  added = subst (Appended u.done before) (sym t.2) u.added;
                   stacked = subst (λ (l : List (Level NodeKey)). Stacked l (length levels'.free) top.others) (sym t.1) (subst (λ (m : ℕ). Stacked top.below m top.others) free top.under);
                 }
             by (child a (node v ds) cs) is t =
@@ -143,10 +143,10 @@ module _ (A : Automaton) (n : ℕ) (base : List (Level NodeKey)) where
                 }
 
         -- where a turn's bytes have no room, all have none
-        pub crowded : Turns A top.below top.state top.children output None levels' output' → length before.bytes.now < before.place + length bytes
+        pub crowded : WritesNext A top.below top.state top.children output None levels' output' → length before.bytes.now < before.place + length bytes
         crowded turns = by top.children refl turns
           where
-            by : (cs : Children) → top.children ≡ cs → Turns A top.below top.state cs output None levels' output' → length before.bytes.now < before.place + length bytes
+            by : (cs : Children) → top.children ≡ cs → WritesNext A top.below top.state cs output None levels' output' → length before.bytes.now < before.place + length bytes
             by none is t = absurd (none-some _ t.0)
             by (child a (node v ds) cs) is t =
                 let some = u.done ++ (number_bytes a ++ head_bytes v ds) in

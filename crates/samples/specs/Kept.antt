@@ -24,9 +24,9 @@ abbrev pub noted_at : {X : Type 0} → List (Option X) → ℕ → Option X
 noted_at xs i = slice_index_or xs i None
 
 -- the number that a list has for the state that is there
-abbrev pub number_of : List ℕ → Option ℕ → ℕ
-number_of sizes (Some s) = slice_index sizes s
-number_of sizes None = 0
+abbrev pub size_at : List ℕ → Option ℕ → ℕ
+size_at sizes (Some s) = slice_index sizes s
+size_at sizes None = 0
 
 -- what the sample of a state begins with
 abbrev pub Root : Type 0
@@ -56,7 +56,7 @@ module _ (A : Automaton) where
 
   -- the bytes of a symbol, and those noted for the state that it leads to
   abbrev pub child_bytes : List ℕ → ℕ → ℕ → ℕ
-  child_bytes sizes q a = length (number_bytes a) + number_of sizes (A.next q a)
+  child_bytes sizes q a = length (number_bytes a) + size_at sizes (A.next q a)
 
   -- the bytes of the children under the symbols of a sequence
   abbrev pub bytes_below : List ℕ → ℕ → List ℕ → ℕ

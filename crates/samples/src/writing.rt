@@ -10,7 +10,7 @@ ghost use Rattle.samples.specs.declared.node.NodeKey.{NodeKey as Key};
 ghost use Rattle.samples.specs.Kept.{HasSamples, Sampled};
 ghost use Rattle.samples.specs.Outputs.{Within};
 ghost use Rattle.samples.specs.Samples.{Sample, Samples as AreSamples};
-ghost use Rattle.samples.specs.Writing.{head_bytes, level_of, LastOf, Leaves, Turns, ahead};
+ghost use Rattle.samples.specs.Writing.{head_bytes, level_of, LastOf, Leaves, WritesNext, ahead};
 
 use crate::node::NodeKey;
 use crate::output::Output;
@@ -97,7 +97,7 @@ fn turn<D: Domain>(
         IsState tested.now q →
         LastOf (meaning D.Domain.holds tested.now) q cs →
         heights cs ≤ length levels.old.free →
-        Turns (meaning D.Domain.holds tested.now) below q cs
+        WritesNext (meaning D.Domain.holds tested.now) below q cs
         output.old result levels.new output.new }
     ensures slots { slots levels.new ≡ slots levels.old }
     ensures less { result ≡ Some tt → ahead levels.new output.new < ahead levels.old output.old }

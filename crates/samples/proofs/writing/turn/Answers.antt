@@ -6,14 +6,13 @@ use Rattle.codec.specs.Numbers.{number_bytes}
 use Rattle.codec.specs.Piles.{topmost}
 use Rattle.codec.specs.Trees.{node, Children, child, many, heights}
 use Rattle.codec.proofs.Slots.{topmost_of, over_top}
-use Rattle.schema.specs.Tables.{tables, sets}
 use Rattle.samples.specs.declared.node.NodeKey.{NodeKey}
 use Rattle.samples.specs.declared.writing.Child.{Child}
 use Rattle.schema.specs.Meaning.{meaning, states_of}
 use Rattle.samples.specs.Samples.{Sample}
 use Rattle.samples.specs.Writing.{head_bytes, level_of, LastOf, Leaves}
 use Rattle.samples.specs.Kept.{HasSamples}
-use Rattle.samples.specs.Outputs.{Added}
+use Rattle.samples.specs.Outputs.{Appended}
 use Rattle.samples.proofs.Outputs.{crowded_front}
 use Rattle.samples.proofs.Turning.{FirstChild, first_child, leaves_more, ends, goes_on, fewer_left, two_on_top, popped_below}
 use Rattle.samples.proofs.Tested.{next_inside}
@@ -85,7 +84,7 @@ returns-clause-turns g c = λ has below q cs on low last fits.
     let n = next g at.After-next_child has below q cs top low last in
     let same : c.in_ok-child.child ≡ record { symbol = n.first.symbol; state = n.state } = same_Some _ _ (sym c.in_ok-child.was ∙ n.found) in
     let led : c.in_ok-child.child.state ≡ n.state = ap (λ (d : Child). d.state) same in
-    let written = subst (λ (a : ℕ). Added (number_bytes a) before c.number.new.self) (c.from.ensures ∙ ap (λ (d : Child). d.symbol) same) c.in_ok-number.ensures in
+    let written = subst (λ (a : ℕ). Appended (number_bytes a) before c.number.new.self) (c.from.ensures ∙ ap (λ (d : Child). d.symbol) same) c.in_ok-number.ensures in
     let fewer : c.replace.new.self.entries ≡ below ++ level_of q n.first.others ∷ [] =
     over_top _ below (level_of q cs) _ _ on c.replace.ensures ∙ ap (λ (l : Level NodeKey). below ++ l ∷ []) (fewer_left q cs n.first c.in_ok-level.level top) in
     let space : 0 < length c.replace.new.self.free = omega (arith, fits, ap heights n.first.split, ap length c.replace.ensures.free) in

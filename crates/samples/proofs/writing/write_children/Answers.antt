@@ -4,11 +4,11 @@ use Rattle.std.proofs.lemmas.Option.{none-some, same_Some}
 use Rattle.codec.specs.Encoding.{children_bytes}
 use Rattle.codec.specs.Numbers.{number_bytes}
 use Rattle.codec.specs.Trees.{Children, word, heights}
-use Rattle.schema.specs.Tables.{tables, sets}
+use Rattle.schema.specs.Tables.{sets}
 use Rattle.schema.specs.Meaning.{meaning, states_of}
 use Rattle.samples.specs.Samples.{Sample, Samples}
 use Rattle.samples.specs.Kept.{HasSamples}
-use Rattle.samples.specs.Outputs.{Within, Added}
+use Rattle.samples.specs.Outputs.{Within, Appended}
 use Rattle.samples.proofs.Brothers.{Partly, Next, unwritten, all_written, next, crowded_symbol, crowded_tree, one_more}
 use Rattle.samples.proofs.Tested.{next_inside}
 use Rattle.samples.proofs.writing.write_children.Given as given
@@ -63,7 +63,7 @@ returns-in_err-write_sample-clause-written g c = λ has cs low s symbols fits wi
     let A = meaning g.D.Domain.holds c.args.tested.now in
     let n = coming g (goal.at.returns-in_err-write_sample-clause-written g c).After-next_state has cs low s symbols fits within in
     let same : c.in_ok-next.next ≡ n.next.state = same_Some _ _ (sym c.in_ok-next.was ∙ n.found) in
-    let symbol = subst (λ (a : ℕ). Added (number_bytes a) c.loop-symbol.output c.number.new.self) c.from.ensures c.in_ok-number.ensures in
+    let symbol = subst (λ (a : ℕ). Appended (number_bytes a) c.loop-symbol.output c.number.new.self) c.from.ensures c.in_ok-number.ensures in
     let short = c.in_err-write_sample.ensures.written has n.next.tree (omega (arith, same, n.inside)) (subst (λ (p : ℕ). Sample A p n.next.tree) (sym same) n.next.sample) (omega (arith, n.next.fits, n.free)) in
     rw c.from_residual-in_err-write_sample.ensures (crowded_tree _ _ _ _ _ _ _ _ n.partly n.next c.number.new.self symbol short)
 
@@ -75,7 +75,7 @@ loop-symbol-preserved g c =
           let A = meaning g.D.Domain.holds c.args.tested.now in
           let n = coming g (goal.at.loop-symbol-preserved g c).After-next_state has cs low s symbols fits within in
           let same : c.in_ok-next.next ≡ n.next.state = same_Some _ _ (sym c.in_ok-next.was ∙ n.found) in
-          let symbol = subst (λ (a : ℕ). Added (number_bytes a) c.loop-symbol.output c.number.new.self) c.from.ensures c.in_ok-number.ensures in
+          let symbol = subst (λ (a : ℕ). Appended (number_bytes a) c.loop-symbol.output c.number.new.self) c.from.ensures c.in_ok-number.ensures in
           let tree = c.in_ok-write_sample.ensures.written has n.next.tree (omega (arith, same, n.inside)) (subst (λ (p : ℕ). Sample A p n.next.tree) (sym same) n.next.sample) (omega (arith, n.next.fits, n.free)) in
           (one_more _ _ _ _ _ _ _ _ n.partly n.next c.number.new.self symbol c.write_sample.new.output tree.0, tree.1 ∙ n.levels);
     }

@@ -10,8 +10,8 @@ use Rattle.samples.specs.declared.size.TheConstants.{TOO_LONG}
 use Rattle.compare.specs.Listing.{entries_of}
 use Rattle.compare.proofs.Views.{kept_of, many_of}
 use Rattle.samples.specs.declared.node.NodeKey.{NodeKey}
-use Rattle.document.specs.Steps.{PathStep, mark}
-use Rattle.document.proofs.Tracing.{pushed_on, pushed_slots, Point, begins, goes_back, no_end, no_way_back, ends_at_first}
+use Rattle.document.specs.Steps.{PathStep, level_at}
+use Rattle.document.proofs.Tracing.{pushed_on, pushed_slots, Point, begins, goes_back, no_end, no_path_back, ends_at_first}
 use Rattle.document.proofs.counterexample.Counterexample.trace.Goals as goal
 use Rattle.document.proofs.counterexample.Counterexample.trace.Goals.{then-start-eq0, else-start-eq0}
 
@@ -34,7 +34,7 @@ returns-in_err-step-clause-traced g c = λ ready empty free.
     let t = c.args.self.now in
     let l = c.loop-at in
     rw c.from_residual-in_err-step.ensures
-    (no_way_back (meaning g.D.Domain.holds t.compared.first.now) (meaning g.D.Domain.holds t.compared.second.now) t.kind (entries_of t.pairs.now) c.args.place l.at l.size l.levels.entries (l.invariant.point ready empty free) (omega arith) (c.in_err-step.ensures.back ready))
+    (no_path_back (meaning g.D.Domain.holds t.compared.first.now) (meaning g.D.Domain.holds t.compared.second.now) t.kind (entries_of t.pairs.now) c.args.place l.at l.size l.levels.entries (l.invariant.point ready empty free) (omega arith) (c.in_err-step.ensures.back ready))
 
 pub overflow_cast-at : goal.overflow_cast-at
 overflow_cast-at g c = omega (arith, c.in_ok-step.ensures.low.1)
@@ -58,9 +58,9 @@ loop-at-preserved g c =
           let step = c.in_ok-step.step in
           let next = goes_back A B t.kind es i l.at l.size l.levels.entries step p (c.in_ok-step.ensures.back ready) in
           let inside = slice_get_within es i p.last p.listed in
-          let long = ap length p.marked ∙ length-map p.steps (λ (s : PathStep A B es). mark s.place) in
+          let long = ap length p.marked ∙ length-map p.steps (λ (s : PathStep A B es). level_at s.place) in
           let some : 0 < length l.levels.free = omega (arith, l.invariant.slots, ap length empty, p.few, long, free, inside, many_of pairs, (kept_of pairs).short, c.loop-at-test.true) in
-          let levels = pushed_on l.levels (mark l.at) c.push.result c.push.new.self c.push.ensures some in
+          let levels = pushed_on l.levels (level_at l.at) c.push.result c.push.new.self c.push.ensures some in
           subst (λ (n : ℕ). Point A B t.kind es i step.at n c.push.new.self.entries) (sym c.add-size.ensures.sum) (subst (λ (ls : List (Level NodeKey)). Point A B t.kind es i step.at (min (l.size + step.size) TOO_LONG) ls) (sym levels) next);
     }
 
