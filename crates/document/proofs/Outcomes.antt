@@ -18,7 +18,7 @@ use Rattle.compare.proofs.NotHolder.{found_within, found_third, some_found}
 use Rattle.compare.proofs.Tests.{held_refused}
 use Rattle.samples.specs.declared.size.TheConstants.{TOO_LONG}
 use Rattle.samples.specs.Kept.{needed}
-use Rattle.document.specs.Writing.{document_kept_from, early_refusal, FoundDocument, DocumentAnswer, OneDocumenting, DocumentOfStranger}
+use Rattle.document.specs.Writing.{document_kept_from, early_refusal, FoundDocument, DocumentAnswer, OneDocumenting, DocumentByNotHolder}
 use Rattle.document.proofs.Unique.{found_or_not, one_found}
 
 module _ (A B : Automaton) (w : View) (output : List ℕ) where
@@ -67,9 +67,9 @@ one_documenting T U sets others claim slots levels a output r s one other p q =
     q)
     p
 
-pub document_of_stranger : DocumentOfStranger
-unfolding DocumentOfStranger
-document_of_stranger T U sets others claim slots levels a output r output' does other =
+pub document_by_not_holder : DocumentByNotHolder
+unfolding DocumentByNotHolder
+document_by_not_holder T U sets others claim slots levels a output r output' does other =
     let w = view a in
     let found = λ (p q : Option Refusal) (rest : List (Option Refusal)) (is : q ≡ first_of (p ∷ Some (refusal_of_not_holder w claim) ∷ [])). found_within p q (refusal_of_not_holder w claim) rest is in
     let write : write_kept_from w T U claim slots ≡ first_of (other_symbols w T U ∷ Some (refusal_of_not_holder w claim) ∷ []) = found (other_symbols w T U) (held_kept_from w T U claim) _ (held_refused w claim T U other) in

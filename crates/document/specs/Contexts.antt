@@ -1,5 +1,5 @@
--- Contexts: nodes on the path before its end, where one child goes on and the others are samples; and the bytes around that child. Assumes
--- nothing.
+-- Contexts: nodes on the path before its end, where one child goes on and the others are samples;
+-- and the bytes around that child. Assumes nothing.
 use Rattle.std.specs.Prelude.{◌≡◌, ℕ, ◌+◌, List, ◌∷◌, ◌++◌, length, min}
 use Rattle.codec.specs.Encoding.{children_bytes}
 use Rattle.codec.specs.Numbers.{number_bytes}
@@ -18,8 +18,8 @@ followed_by none ds = ds
 followed_by (child a t cs) ds = child a t (followed_by cs ds)
 
 module _ (A B : Automaton) where
-  -- a node from whose states p and q the path goes on to a listed pair: its value, and the children before and after the one that goes on,
-  -- which is the first under the pair's symbol
+  -- a node from whose states p and q the path goes on to a listed pair: its value, and the children
+  -- before and after the one that goes on, which is the first under the pair's symbol
   pub record Context (p q : ℕ) (e : Listed) : Type 0 where
     pub value : ℕ
     pub before : Children
@@ -39,7 +39,8 @@ module _ (A B : Automaton) where
     abbrev pub bytes_before : List ℕ
     bytes_before =
         number_bytes f.value
-        ++ (number_bytes (length (word f.before ++ e.symbol ∷ word f.after)) ++ (children_bytes f.before ++ number_bytes e.symbol))
+        ++ (number_bytes (length (word f.before ++ e.symbol ∷ word f.after))
+        ++ (children_bytes f.before ++ number_bytes e.symbol))
 
     -- the bytes after the part's: the children after
     abbrev pub bytes_after : List ℕ
@@ -49,7 +50,8 @@ module _ (A B : Automaton) where
   abbrev pub context_bytes : {p q : ℕ} {e : Listed} → Context p q e → ℕ
   context_bytes f = min (length (bytes_before f) + length (bytes_after f)) TOO_LONG
 
-  -- a tree built along a path that goes on to the listed pair splits into a context and the part built from there on
+  -- a tree built along a path that goes on to the listed pair splits into a context and the part
+  -- built from there on
   pub record Split (k : Kind) (p q : ℕ) (e : Listed) (path : List Listed) (t : Tree) : Type 0 where
     pub context : Context p q e
     pub part : Tree

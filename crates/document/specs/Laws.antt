@@ -3,12 +3,12 @@ use Rattle.std.specs.Prelude.{◌≡◌}
 use Rattle.document.specs.declared.counterexample.TheConstants.{NODE_SYMBOLS}
 use Rattle.document.specs.declared.document.TheConstants.{LEVELS}
 use Rattle.document.specs.Documents.{HasDocument, OneDocument, TellsApart}
-use Rattle.document.specs.Writing.{DocumentOfStranger, OneDocumenting}
+use Rattle.document.specs.Writing.{DocumentByNotHolder, OneDocumenting}
 
 -- the laws of the call and of its documents
 pub record DocumentLaws : Type 0 where
   pub once : OneDocumenting
-  pub stranger : DocumentOfStranger
+  pub not_holder : DocumentByNotHolder
   pub apart : TellsApart
   pub one : OneDocument
   pub exists : HasDocument

@@ -1,4 +1,5 @@
 pub mod Contexts
+pub mod Counterexamples
 pub mod Documents
 pub mod Laws
 pub mod Nodes
