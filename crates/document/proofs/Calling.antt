@@ -1,5 +1,5 @@
 -- What the tests of the call tell, and the area's document as it is traced. Assumes nothing.
-use Rattle.std.proofs.Common.{◌≡◌, ℕ, ◌+◌, ◌<◌, ◌≤◌, Bool, Bor, List, [], length, Some, None, Ok, Err, Option, Result, sym, refl, ap, ◌∙◌, subst, inr}
+use Rattle.std.proofs.Common.{◌≡◌, ℕ, ◌+◌, ◌<◌, ◌≤◌, Bool, List, [], length, Some, None, Ok, Err, Option, Result, sym, refl, ap, ◌∙◌, subst, inr}
 use Rattle.std.specs.Option.{ok_or}
 use Rattle.std.proofs.lemmas.Bool.{and_parts, eqb-true, ltb-false, not-false}
 use Rattle.std.proofs.lemmas.Option.{none-some}
@@ -67,18 +67,18 @@ counts_of w T U none =
 
 module _ (A B : Automaton) (a : Area) (b : BrokenPair) (of : BrokenOf a (Some b)) where
   -- the document that is traced is the area's
-  pub found_in : (way : List Listed) (t : Tree) → DocumentOf A B b.kind (entries_of b.pairs.now) b.index way t → DocumentIn A B (view a) way t
-  found_in way t d =
-      let pairs = subst (λ (p : Pairs). DocumentOf A B b.kind (entries_of p) b.index way t) of.1 d in
-      (b.kind, of.0, subst (λ (i : ℕ). DocumentOf A B b.kind (entries_of a.pairs) i way t) of.2 pairs)
+  pub found_in : (path : List Listed) (t : Tree) → DocumentOf A B b.kind (entries_of b.pairs.now) b.index path t → DocumentIn A B (view a) path t
+  found_in path t d =
+      let pairs = subst (λ (p : Pairs). DocumentOf A B b.kind (entries_of p) b.index path t) of.1 d in
+      (b.kind, of.0, subst (λ (i : ℕ). DocumentOf A B b.kind (entries_of a.pairs) i path t) of.2 pairs)
 
   -- and where none is there the area has none
-  pub none_in : ((way : List Listed) (t : Tree) → DocumentOf A B b.kind (entries_of b.pairs.now) b.index way t → ⊥) → NoDocument A B (view a)
-  none_in none way t (k, phase, d) =
+  pub none_in : ((path : List Listed) (t : Tree) → DocumentOf A B b.kind (entries_of b.pairs.now) b.index path t → ⊥) → NoDocument A B (view a)
+  none_in none path t (k, phase, d) =
       let kinds : k ≡ b.kind = cc (phase, of.0) in
-      let kind = subst (λ (x : Kind). DocumentOf A B x (entries_of a.pairs) (broken_index (view a)) way t) kinds d in
-      let index = subst (λ (i : ℕ). DocumentOf A B b.kind (entries_of a.pairs) i way t) (sym of.2) kind in
-      none way t (subst (λ (p : Pairs). DocumentOf A B b.kind (entries_of p) b.index way t) (sym of.1) index)
+      let kind = subst (λ (x : Kind). DocumentOf A B x (entries_of a.pairs) (broken_index (view a)) path t) kinds d in
+      let index = subst (λ (i : ℕ). DocumentOf A B b.kind (entries_of a.pairs) i path t) (sym of.2) kind in
+      none path t (subst (λ (p : Pairs). DocumentOf A B b.kind (entries_of p) b.index path t) (sym of.1) index)
 
 -- with the area's counts the list of pairs is inside those of the schemas
 pub inside_of : {D : Type 0} (c : Compared D) (a : Area) (b : BrokenPair) → BrokenOf a (Some b) → other_counts (view a) (tables_of c.first.now) (tables_of c.second.now) ≡ None → Inside c b.pairs.now

@@ -1,9 +1,9 @@
 -- Where each listed pair is reached by live symbols, and one of them is broken, it can't be that this one has no document. Nothing is computed
 -- here: of what has to be there it is shown that it can't be lacking. Assumes nothing.
-use Rattle.std.proofs.Common.{◌≡◌, ℕ, zero, suc, ◌<◌, ◌≤◌, ◌^◌, Bool, true, false, ltb, ◌⊎◌, List, [], ◌∷◌, ◌++◌, reverse, length, Some, None, sym, refl, ap, ◌∙◌, subst, inl, inr, ⊎_elim, arith}
+use Rattle.std.proofs.Common.{◌≡◌, ℕ, zero, suc, ◌<◌, ◌≤◌, ◌^◌, Bool, true, false, ◌⊎◌, List, [], ◌∷◌, ◌++◌, reverse, length, Some, sym, refl, ap, ◌∙◌, subst, inl, inr, ⊎_elim, arith}
 use mathlib.Core.List.{reverse-cons}
 use Rattle.std.specs.List.{AllByRecursion, slice_get}
-use Rattle.std.proofs.lemmas.Bool.{and_parts, and_from, cases_Bool, cases_eq, cases_lt, cases_order, cond-true, lt-ltb, not_from_false}
+use Rattle.std.proofs.lemmas.Bool.{and_parts, and_from, cases_Bool, cases_eq, cases_lt, cases_order, not_from_false}
 use Rattle.std.proofs.lemmas.List.{reverse-reverse}
 use Rattle.std.proofs.lemmas.Option.{same_Some, slice_get_within}
 use Rattle.codec.specs.Trees.{Tree, node, Children, none, child, word, height, heights}
@@ -22,11 +22,10 @@ use Rattle.compare.specs.Breaking.{Broken}
 use Rattle.compare.specs.Invariant.{StatePath, Reached}
 use Rattle.compare.specs.Pairs.{start}
 use Rattle.document.specs.Documents.{OnPath, LeadsTo, Built, HasDocument}
-use Rattle.document.specs.Forks.{filled}
-use Rattle.samples.specs.Samples.{LowerSequence, SampleSequence, Sample}
+use Rattle.document.specs.Contexts.{filled}
+use Rattle.samples.specs.Samples.{LeadsLower, LowerSequence, SampleSequence, Sample}
 use Rattle.samples.proofs.Growing.{LeadsLive, LeadsSampled, SampledChildren, gather, one_rank}
-use Rattle.samples.proofs.Ranking.{LeadsLower}
-use Rattle.document.proofs.Splitting.{end_with, fork_with, holds_none, joined_built, sides}
+use Rattle.document.proofs.Splitting.{end_with, context_with, holds_none, filled_built, sides}
 use Rattle.search.specs.Paths.{PathBack}
 use Rattle.search.proofs.Paths.{found_there, one_word, word_parent}
 use Rattle.compare.specs.Listing.{pair_links}
@@ -190,16 +189,16 @@ module _ (A B : Automaton) where
   -- the symbols of the listed pairs lead on from the pair (p, q), each live at its first state, to the pair (x, y)
   abbrev Along : ℕ → ℕ → List Listed → ℕ → ℕ → Type 0
   Along p q [] x y = (p ≡ x) × (q ≡ y)
-  Along p q (e ∷ way) x y = LiveSymbol A p e.symbol × LeadsTo A B p q e × Along e.first e.second way x y
+  Along p q (e ∷ path) x y = LiveSymbol A p e.symbol × LeadsTo A B p q e × Along e.first e.second path x y
 
   -- one pair more
-  along_push : (way : List Listed) (p q x y : ℕ) (e : Listed) → Along p q way x y → LiveSymbol A x e.symbol → LeadsTo A B x y e → Along p q (way ++ e ∷ []) e.first e.second
+  along_push : (path : List Listed) (p q x y : ℕ) (e : Listed) → Along p q path x y → LiveSymbol A x e.symbol → LeadsTo A B x y e → Along p q (path ++ e ∷ []) e.first e.second
   along_push [] p q x y e same live leads = (
     subst (λ (s : ℕ). LiveSymbol A s e.symbol) (sym same.0) live,
     subst (λ (s : ℕ). LeadsTo A B s q e) (sym same.0) (subst (λ (s : ℕ). LeadsTo A B x s e) (sym same.1) leads),
     (refl, refl),
   )
-  along_push (f ∷ way) p q x y e along live leads = (along.0, along.1, along_push way f.first f.second x y e along.2 live leads)
+  along_push (f ∷ path) p q x y e along live leads = (along.0, along.1, along_push path f.first f.second x y e along.2 live leads)
 
   -- the last symbol of a path
   last_live : (w : List ℕ) (p a r s : ℕ) → LivePath A p w r → LivePath A p (w ++ a ∷ []) s → LiveSymbol A r a × (A.next r a ≡ Some s)
@@ -214,7 +213,7 @@ module _ (A B : Automaton) where
       let same : long.0 ≡ path.0 = same_Some _ _ (sym long.1 ∙ path.1) in
       last_step w path.0 a r s path.2 (subst (λ (t : ℕ). StatePath B t (w ++ a ∷ []) s) same long.2)
 
-  -- where every listed pair is reached, a way leads along its pairs
+  -- where every listed pair is reached, a path leads along its pairs
   module _ (es : List Listed) (starts : slice_get es 0 ≡ Some start) (reached : Reached A B es) where
     -- from the pair that led to an entry
     leads_on : (i : ℕ) (e y : Listed) → slice_get es i ≡ Some e → e.parent < i → slice_get es e.parent ≡ Some y → LiveSymbol A y.first e.symbol × LeadsTo A B y.first y.second e
@@ -227,14 +226,14 @@ module _ (A B : Automaton) where
         let first = last_live s.0 0 e.symbol y.first e.first s.2 (subst (λ (l : List ℕ). LivePath A 0 l e.first) long r.2) in
         (first.0, (first.1, last_step s.0 0 e.symbol y.second e.second s.3 (subst (λ (l : List ℕ). StatePath B 0 l e.second) long r.3)))
 
-    along_climb : (back : List Listed) (i : ℕ) (x : Listed) → slice_get es i ≡ Some x → PathBack pair_links es i back → Along 0 0 (reverse back) x.first x.second
-    along_climb [] i x at first =
+    along_back : (back : List Listed) (i : ℕ) (x : Listed) → slice_get es i ≡ Some x → PathBack pair_links es i back → Along 0 0 (reverse back) x.first x.second
+    along_back [] i x at first =
         let same : start ≡ x = same_Some _ _ (sym starts ∙ ap (slice_get es) (sym first) ∙ at) in
         (ap {B = ℕ} (λ (e : Listed). e.first) same, ap {B = ℕ} (λ (e : Listed). e.second) same)
-    along_climb (e ∷ back) i x at c =
+    along_back (e ∷ back) i x at c =
         let y = nth_inside es e.parent (omega (arith, c.1, slice_get_within es i e c.0)) in
         let led = leads_on i e y.0 c.0 c.1 y.1 in
-        let there = along_push (reverse back) 0 0 y.0.first y.0.second e (along_climb back e.parent y.0 y.1 c.2) led.0 led.1 in
+        let there = along_push (reverse back) 0 0 y.0.first y.0.second e (along_back back e.parent y.0 y.1 c.2) led.0 led.1 in
         subst (λ (z : Listed). Along 0 0 (reverse (e ∷ back)) z.first z.second) (same_Some _ _ (sym c.0 ∙ at))
         (subst (λ (l : List Listed). Along 0 0 l e.first e.second) (sym (reverse-cons e back)) there)
 
@@ -253,33 +252,33 @@ module _ (A B : Automaton) where
         on (least_value A values p live)
         (λ v. on (children A values p w.0 w.1.passes.0.1) (λ cs. here (node v.0 cs.0, end_with A B Content p q v.0 w.0 (v.1, w.1) cs))))
 
-    -- a node on the way, with the part that goes on
-    node_built : (k : Kind) (p q : ℕ) (e : Listed) (way : List Listed) (part : Tree) → Live A p → LiveSymbol A p e.symbol → LeadsTo A B p q e → Built A B k e.first e.second way part → Sure ((t : Tree) × Built A B k p q (e ∷ way) t)
-    node_built k p q e way part live symbol leads built =
+    -- a node on the path, with the part that goes on
+    node_built : (k : Kind) (p q : ℕ) (e : Listed) (path : List Listed) (part : Tree) → Live A p → LiveSymbol A p e.symbol → LeadsTo A B p q e → Built A B k e.first e.second path part → Sure ((t : Tree) × Built A B k p q (e ∷ path) t)
+    node_built k p q e path part live symbol leads built =
         on (least_value A values p live)
         (λ v.
         on (first (λ u. LiveSequence A p u × Holds e.symbol u) (symbol.0 ++ e.symbol ∷ symbol.1) (symbol.2, (symbol.0, symbol.1, refl)))
         (λ w.
         let s = parted e.symbol w.0 w.1.passes.1 in
-        let on_way : OnPath A B p e.symbol v.0 (s.0 ++ e.symbol ∷ s.1) = subst (OnPath A B p e.symbol v.0) s.2 (v.1, w.1) in
-        let both = sides A p e.symbol s.0 s.1 on_way.1.passes.0.1 in
+        let on_path : OnPath A B p e.symbol v.0 (s.0 ++ e.symbol ∷ s.1) = subst (OnPath A B p e.symbol v.0) s.2 (v.1, w.1) in
+        let both = sides A p e.symbol s.0 s.1 on_path.1.passes.0.1 in
         on (children A values p s.0 both.0)
         (λ before.
         on (children A values p s.1 both.1)
         (λ after.
-        let f = fork_with A B p q e v.0 s.0 s.1 on_way leads s.3 before after in
-        here (filled A B f.fork part, joined_built A B k p q e way f.fork part built)))))
+        let f = context_with A B p q e v.0 s.0 s.1 on_path leads s.3 before after in
+        here (filled A B f.context part, filled_built A B k p q e path f.context part built)))))
 
-    way_built : (k : Kind) (p q x y : ℕ) (way : List Listed) → Live A p → Along p q way x y → Broken A B k x y → Sure ((t : Tree) × Built A B k p q way t)
-    way_built k p q x y [] live same broken = end_built k p q live (subst (λ (s : ℕ). Broken A B k s q) (sym same.0) (subst (Broken A B k x) (sym same.1) broken))
-    way_built k p q x y (e ∷ way) live along broken =
-        on (way_built k e.first e.second x y way (live_next A p e.symbol e.first along.0 along.1.0) along.2 broken)
-        (λ part. node_built k p q e way part.0 live along.0 along.1 part.1)
+    path_built : (k : Kind) (p q x y : ℕ) (path : List Listed) → Live A p → Along p q path x y → Broken A B k x y → Sure ((t : Tree) × Built A B k p q path t)
+    path_built k p q x y [] live same broken = end_built k p q live (subst (λ (s : ℕ). Broken A B k s q) (sym same.0) (subst (Broken A B k x) (sym same.1) broken))
+    path_built k p q x y (e ∷ path) live along broken =
+        on (path_built k e.first e.second x y path (live_next A p e.symbol e.first along.0 along.1.0) along.2 broken)
+        (λ part. node_built k p q e path part.0 live along.0 along.1 part.1)
 
 pub has_document : HasDocument
 unfolding HasDocument
 has_document A B k es i x values live starts reached at broken lacks =
     let w = (reached i x at).1 in
-    let along : Along A B 0 0 w.0 x.first x.second = subst (λ (l : List Listed). Along A B 0 0 l x.first x.second) (reverse-reverse w.0) (along_climb A B es starts reached (reverse w.0) i x at w.1) in
-    way_built A B values k 0 0 x.first x.second w.0 live along broken
+    let along : Along A B 0 0 w.0 x.first x.second = subst (λ (l : List Listed). Along A B 0 0 l x.first x.second) (reverse-reverse w.0) (along_back A B es starts reached (reverse w.0) i x at w.1) in
+    path_built A B values k 0 0 x.first x.second w.0 live along broken
     (λ t. lacks w.0 t.0 (record { first = start; listed = starts; starts = (refl, refl); leads = w.1; built = t.1 }))

@@ -6,4 +6,4 @@ use Rattle.document.proofs.Outcomes.{document_by_not_holder, one_documenting}
 use Rattle.document.proofs.Unique.{one_document}
 
 pub document_laws : DocumentLaws
-document_laws = record { once = one_documenting; stranger = document_by_not_holder; apart = tells_apart; one = one_document; exists = has_document }
+document_laws = record { once = one_documenting; not_holder = document_by_not_holder; apart = tells_apart; one = one_document; exists = has_document }

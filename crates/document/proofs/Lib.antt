@@ -7,7 +7,7 @@ pub mod Laws
 pub mod Lengths
 pub mod Onward
 pub mod Outcomes
-pub mod Passages
+pub mod PathNodes
 pub mod Places
 pub mod Splitting
 pub mod Stepping

@@ -1,16 +1,16 @@
--- Where a symbol first stands in a sequence, and the sides of it that a fork's children have. Assumes nothing.
+-- Where a symbol first stands in a sequence, and the sides of it that a context's children have. Assumes nothing.
 use Rattle.std.proofs.Common.{◌≡◌, ℕ, List, [], ◌∷◌, ◌++◌, refl, ap, ◌∙◌}
 use Rattle.codec.specs.Trees.{word}
 use Rattle.schema.specs.Automata.{Automaton}
 use Rattle.search.specs.Watching.{Holds}
 use Rattle.compare.specs.declared.pairs.Listed.{Listed}
 use Rattle.document.specs.Documents.{OnPath}
-use Rattle.document.specs.Forks.{Context}
+use Rattle.document.specs.Contexts.{Context}
 use Rattle.document.proofs.Splitting.{holds_here, holds_later}
 use Rattle.samples.proofs.Unique.{one_samples}
-use Rattle.document.proofs.Unique.{one_on_way}
+use Rattle.document.proofs.Unique.{one_on_path}
 
--- there is one way to part a sequence at the first such symbol
+-- there is one path to part a sequence at the first such symbol
 pub one_parting : (a : ℕ) (u x v y : List ℕ) → (Holds a u → ⊥) → (Holds a v → ⊥) → u ++ a ∷ x ≡ v ++ a ∷ y → (u ≡ v) × (x ≡ y)
 one_parting a [] x [] y lacks lacks' is = (refl, cc)
 one_parting a [] x (c ∷ v) y lacks lacks' is = let here : c ≡ a = cc in absurd (lacks' (holds_here a c v here))
@@ -22,17 +22,17 @@ one_parting a (b ∷ u) x (c ∷ v) y lacks lacks' is =
     (ap (λ (d : ℕ). d ∷ u) here ∙ ap (λ (l : List ℕ). c ∷ l) rest.0, rest.1)
 
 module _ (A B : Automaton) {p q : ℕ} {e : Listed} (f : Context A B p q e) (v : ℕ) (w : List ℕ) (found : OnPath A B p e.symbol v w) where
-  -- the value and the sequence found for a node are its fork's
-  pub fork_says : (f.value ≡ v) × (word f.before ++ e.symbol ∷ word f.after ≡ w)
-  fork_says = one_on_way A B p e.symbol f.value v (word f.before ++ e.symbol ∷ word f.after) w f.on_way found
+  -- the value and the sequence found for a node are its context's
+  pub context_says : (f.value ≡ v) × (word f.before ++ e.symbol ∷ word f.after ≡ w)
+  context_says = one_on_path A B p e.symbol f.value v (word f.before ++ e.symbol ∷ word f.after) w f.on_path found
 
   -- and the children before and after are those for the symbols before and after the first such symbol
-  pub fork_sides : (u x : List ℕ) → w ≡ u ++ e.symbol ∷ x → (Holds e.symbol u → ⊥) → (word f.before ≡ u) × (word f.after ≡ x)
-  fork_sides u x is lacks = one_parting e.symbol (word f.before) (word f.after) u x f.first lacks (fork_says.1 ∙ is)
+  pub context_sides : (u x : List ℕ) → w ≡ u ++ e.symbol ∷ x → (Holds e.symbol u → ⊥) → (word f.before ≡ u) × (word f.after ≡ x)
+  context_sides u x is lacks = one_parting e.symbol (word f.before) (word f.after) u x f.first lacks (context_says.1 ∙ is)
 
--- there is one fork, by its value and its children
-pub one_fork : (A B : Automaton) (p q : ℕ) (e : Listed) (f g : Context A B p q e) → (f.value ≡ g.value) × (f.before ≡ g.before) × (f.after ≡ g.after)
-one_fork A B p q e f g =
-    let says = fork_says A B f g.value (word g.before ++ e.symbol ∷ word g.after) g.on_way in
-    let sides = fork_sides A B f g.value (word g.before ++ e.symbol ∷ word g.after) g.on_way (word g.before) (word g.after) refl g.first in
+-- there is one context, by its value and its children
+pub one_context : (A B : Automaton) (p q : ℕ) (e : Listed) (f g : Context A B p q e) → (f.value ≡ g.value) × (f.before ≡ g.before) × (f.after ≡ g.after)
+one_context A B p q e f g =
+    let says = context_says A B f g.value (word g.before ++ e.symbol ∷ word g.after) g.on_path in
+    let sides = context_sides A B f g.value (word g.before ++ e.symbol ∷ word g.after) g.on_path (word g.before) (word g.after) refl g.first in
     (says.0, one_samples A p f.before g.before sides.0 f.samples_before g.samples_before, one_samples A p f.after g.after sides.1 f.samples_after g.samples_after)

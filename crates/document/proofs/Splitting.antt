@@ -1,4 +1,4 @@
--- A tree built along a way that goes on is a fork with the part built from there on, and its bytes are the part's between the fork's.
+-- A tree built along a path that goes on is a context with the part built from there on, and its bytes are the part's between the context's.
 -- Assumes nothing.
 use Rattle.std.proofs.Common.{◌≡◌, ℕ, ◌<◌, List, [], ◌∷◌, ◌++◌, length, sym, refl, ap, ◌∙◌, subst, ⊎_elim, inl, inr, append_assoc, arith}
 use Rattle.std.specs.List.{AllByRecursion}
@@ -12,7 +12,7 @@ use Rattle.compare.specs.declared.pairs.Listed.{Listed}
 use Rattle.compare.specs.declared.phase.Kind.{Kind}
 use Rattle.compare.specs.declared.phase.Kind.TheVariants.{Value, Content}
 use Rattle.document.specs.Documents.{AtEnd, OnPath, LeadsTo, Built, HoldsPart}
-use Rattle.document.specs.Forks.{followed_by, Context, filled, bytes_before, bytes_after, Split}
+use Rattle.document.specs.Contexts.{followed_by, Context, filled, bytes_before, bytes_after, Split}
 use Rattle.samples.specs.Samples.{Samples}
 use Rattle.samples.proofs.Lengths.{many_symbols}
 use Rattle.samples.proofs.Growing.{Inside, HaveRoots, LeadsLive, SampledChildren, sampled_children, live_children, sample_children}
@@ -45,21 +45,21 @@ holds_none a h = by h.0 h.2
     by : (u : List ℕ) → [] ≡ u ++ a ∷ h.1 → ⊥
     by u is = omega (arith, ap length is, length-append u (a ∷ h.1))
 
-module _ (A B : Automaton) (k : Kind) (p q : ℕ) (e : Listed) (way : List Listed) where
-  goes_on : (part : Tree) (cs ds : Children) → (Holds e.symbol (word cs) → ⊥) → Samples A p cs → Built A B k e.first e.second way part → Samples A p ds → HoldsPart A B k p e way (followed_by cs (child e.symbol part ds))
+module _ (A B : Automaton) (k : Kind) (p q : ℕ) (e : Listed) (path : List Listed) where
+  goes_on : (part : Tree) (cs ds : Children) → (Holds e.symbol (word cs) → ⊥) → Samples A p cs → Built A B k e.first e.second path part → Samples A p ds → HoldsPart A B k p e path (followed_by cs (child e.symbol part ds))
   goes_on part none ds first s built u = inl (refl, built, u)
   goes_on part (child a t cs) ds first s built u =
       inr ((λ same. first (holds_here e.symbol a (word cs) same)), (s.0, tt), goes_on part cs ds (λ h. first (holds_later e.symbol a (word cs) h)) s.1 built u)
 
-  -- a part with a fork on top is built along a way that is one pair longer
-  pub joined_built : (f : Context A B p q e) (part : Tree) → Built A B k e.first e.second way part → Built A B k p q (e ∷ way) (filled A B f part)
-  joined_built f part built = (
-    subst (OnPath A B p e.symbol f.value) (sym (word_followed f.before (child e.symbol part f.after))) f.on_way,
+  -- a part with a context on top is built along a path that is one pair longer
+  pub filled_built : (f : Context A B p q e) (part : Tree) → Built A B k e.first e.second path part → Built A B k p q (e ∷ path) (filled A B f part)
+  filled_built f part built = (
+    subst (OnPath A B p e.symbol f.value) (sym (word_followed f.before (child e.symbol part f.after))) f.on_path,
     f.leads,
     goes_on part f.before f.after f.first f.samples_before built f.samples_after,
   )
 
-  -- where a way goes on among children
+  -- where a path goes on among children
   record Parting (cs : Children) : Type 0 where
     before : Children
     part : Tree
@@ -68,9 +68,9 @@ module _ (A B : Automaton) (k : Kind) (p q : ℕ) (e : Listed) (way : List Liste
     first : Holds e.symbol (word before) → ⊥
     samples_before : Samples A p before
     samples_after : Samples A p after
-    built : Built A B k e.first e.second way part
+    built : Built A B k e.first e.second path part
 
-  parting : (cs : Children) → HoldsPart A B k p e way cs → Parting cs
+  parting : (cs : Children) → HoldsPart A B k p e path cs → Parting cs
   parting none on = absurd on
   parting (child a t cs) on =
       ⊎_elim
@@ -103,17 +103,17 @@ module _ (A B : Automaton) (k : Kind) (p q : ℕ) (e : Listed) (way : List Liste
       by_place a w other lacks [] x is = let same : a ≡ e.symbol = cc in other same
       by_place a w other lacks (b ∷ u) x is = let rest : w ≡ u ++ e.symbol ∷ x = cc in lacks (u, x, rest)
 
-  -- a tree built along a way that goes on splits
-  pub built_splits : (t : Tree) → Built A B k p q (e ∷ way) t → Split A B k p q e way t
+  -- a tree built along a path that goes on splits
+  pub built_splits : (t : Tree) → Built A B k p q (e ∷ path) t → Split A B k p q e path t
   built_splits (node v cs) b =
       let s = parting cs b.2 in
       record {
-        fork =
+        context =
             record {
               value = v;
               before = s.before;
               after = s.after;
-              on_way = subst (OnPath A B p e.symbol v) (ap word s.is ∙ word_followed s.before (child e.symbol s.part s.after)) b.0;
+              on_path = subst (OnPath A B p e.symbol v) (ap word s.is ∙ word_followed s.before (child e.symbol s.part s.after)) b.0;
               leads = b.1;
               first = s.first;
               samples_before = s.samples_before;
@@ -129,9 +129,9 @@ regrouped : (v n b a t x : List ℕ) → v ++ (n ++ (b ++ (a ++ (t ++ x)))) ≡ 
 regrouped v n b a t x = simp append_assoc
 
 module _ (A B : Automaton) {p q : ℕ} {e : Listed} (f : Context A B p q e) where
-  -- the bytes of a fork with its part: the part's between the fork's own
-  pub joined_bytes : (part : Tree) → tree_bytes (filled A B f part) ≡ bytes_before A B f ++ (tree_bytes part ++ bytes_after A B f)
-  joined_bytes part =
+  -- the bytes of a context with its part: the part's between the context's own
+  pub filled_bytes : (part : Tree) → tree_bytes (filled A B f part) ≡ bytes_before A B f ++ (tree_bytes part ++ bytes_after A B f)
+  filled_bytes part =
       let others = child e.symbol part f.after in
       let count : many (followed_by f.before others) ≡ length (word f.before ++ e.symbol ∷ word f.after) = many_symbols (followed_by f.before others) ∙ ap length (word_followed f.before others) in
       ap (λ (n : ℕ). number_bytes f.value ++ (number_bytes n ++ children_bytes (followed_by f.before others))) count
@@ -143,24 +143,24 @@ pub sides : (A : Automaton) (p a : ℕ) (u x : List ℕ) → AllByRecursion (Lea
 sides A p a [] x all = (tt, all.1)
 sides A p a (b ∷ u) x all = let rest = sides A p a u x all.1 in ((all.0, rest.0), rest.1)
 
--- where two states have a value and a sequence with a symbol that leads on to a listed pair, there is a fork
-pub record Forked (A B : Automaton) (p q : ℕ) (e : Listed) (v : ℕ) (u x : List ℕ) : Type 0 where
-  pub fork : Context A B p q e
-  pub value : fork.value ≡ v
-  pub word_before : word fork.before ≡ u
-  pub word_after : word fork.after ≡ x
+-- where two states have a value and a sequence with a symbol that leads on to a listed pair, there is a context
+pub record ContextFound (A B : Automaton) (p q : ℕ) (e : Listed) (v : ℕ) (u x : List ℕ) : Type 0 where
+  pub context : Context A B p q e
+  pub value : context.value ≡ v
+  pub word_before : word context.before ≡ u
+  pub word_after : word context.after ≡ x
 
-module _ (A B : Automaton) (p q : ℕ) (e : Listed) (v : ℕ) (u x : List ℕ) (on_way : OnPath A B p e.symbol v (u ++ e.symbol ∷ x)) (leads : LeadsTo A B p q e) (first : Holds e.symbol u → ⊥) where
+module _ (A B : Automaton) (p q : ℕ) (e : Listed) (v : ℕ) (u x : List ℕ) (on_path : OnPath A B p e.symbol v (u ++ e.symbol ∷ x)) (leads : LeadsTo A B p q e) (first : Holds e.symbol u → ⊥) where
   -- from samples for the symbols before it and after it
-  pub fork_with : SampledChildren A p u → SampledChildren A p x → Forked A B p q e v u x
-  fork_with before after =
+  pub context_with : SampledChildren A p u → SampledChildren A p x → ContextFound A B p q e v u x
+  context_with before after =
       record {
-        fork =
+        context =
             record {
               value = v;
               before = before.0;
               after = after.0;
-              on_way = subst (λ (l : List ℕ). OnPath A B p e.symbol v (l ++ e.symbol ∷ word after.0)) (sym before.1) (subst (λ (l : List ℕ). OnPath A B p e.symbol v (u ++ e.symbol ∷ l)) (sym after.1) on_way);
+              on_path = subst (λ (l : List ℕ). OnPath A B p e.symbol v (l ++ e.symbol ∷ word after.0)) (sym before.1) (subst (λ (l : List ℕ). OnPath A B p e.symbol v (u ++ e.symbol ∷ l)) (sym after.1) on_path);
               leads = leads;
               first = λ h. first (subst (Holds e.symbol) before.1 h);
               samples_before = before.2;
@@ -172,10 +172,10 @@ module _ (A B : Automaton) (p q : ℕ) (e : Listed) (v : ℕ) (u x : List ℕ) (
       }
 
   -- and where each live state has what its sample begins with
-  pub fork_of : (n : ℕ) → Inside A n → HaveRoots A n → p < n → Forked A B p q e v u x
-  fork_of n inside rooted low =
-      let both = sides A p e.symbol u x on_way.1.passes.0.1 in
-      fork_with (sampled_children A n inside rooted p u low both.0) (sampled_children A n inside rooted p x low both.1)
+  pub context_of : (n : ℕ) → Inside A n → HaveRoots A n → p < n → ContextFound A B p q e v u x
+  context_of n inside rooted low =
+      let both = sides A p e.symbol u x on_path.1.passes.0.1 in
+      context_with (sampled_children A n inside rooted p u low both.0) (sampled_children A n inside rooted p x low both.1)
 
 module _ (A B : Automaton) (k : Kind) (p q v : ℕ) (w : List ℕ) where
   -- with the end's children there is the end's tree

@@ -1,4 +1,4 @@
--- A step up the way: the pair that it is from and the one that it comes to, and the bytes of the node there. Assumes nothing.
+-- A step up the path: the pair that it is from and the one that it comes to, and the bytes of the node there. Assumes nothing.
 use Rattle.std.proofs.Common.{◌≡◌, ℕ, ◌+◌, Bool, eqb, List, ◌∷◌, ◌++◌, length, min, Some, None, Decides, Option, sym, ap, ◌∙◌, subst, arith}
 use Rattle.std.specs.List.{slice_get}
 use Rattle.std.specs.Option.{option_eq}
@@ -12,12 +12,12 @@ use Rattle.compare.specs.declared.pairs.Listed.{Listed}
 use Rattle.compare.specs.Trailing.{led_to}
 use Rattle.search.proofs.Paths.{found_some}
 use Rattle.compare.specs.Listing.{pair_links}
-use Rattle.document.specs.Forks.{Context, context_bytes, bytes_before, bytes_after}
+use Rattle.document.specs.Contexts.{Context, context_bytes, bytes_before, bytes_after}
 use Rattle.document.specs.Steps.{LedFrom, StepsBack}
 use Rattle.samples.specs.declared.size.TheConstants.{TOO_LONG}
 use Rattle.samples.specs.Kept.{needed}
 use Rattle.samples.proofs.Lengths.{tree_length}
-use Rattle.document.proofs.Lengths.{fork_length}
+use Rattle.document.proofs.Lengths.{context_length}
 
 -- what a comparison with a number says of what is there
 pub same_number : (o : Option ℕ) (x : ℕ) (b : Bool) → b ≡ option_eq eqb o (Some x) → Decides b (o ≡ Some x)
@@ -32,9 +32,9 @@ end_sum v cs = by (length (tree_bytes (node v cs))) (length (number_bytes v)) (l
     by n x y z is a b c r p q s t = omega (arith, is, p, q, s, t)
 
 module _ (A B : Automaton) {p q : ℕ} {e : Listed} (f : Context A B p q e) where
-  -- the bytes of a fork but for its part, counted up to TOO_LONG
-  pub fork_sum : (a b c d x r : ℕ) → a ≡ length (number_bytes f.value) → b ≡ length (number_bytes (length (word f.before ++ e.symbol ∷ word f.after))) → c ≡ length (number_bytes e.symbol) → d ≡ min (length (children_bytes f.before)) TOO_LONG → x ≡ min (length (children_bytes f.after)) TOO_LONG → r ≡ min (a + b + c + min (d + x) TOO_LONG) TOO_LONG → r ≡ context_bytes A B f
-  fork_sum = by (length (bytes_before A B f) + length (bytes_after A B f)) (length (number_bytes f.value)) (length (number_bytes (length (word f.before ++ e.symbol ∷ word f.after)))) (length (children_bytes f.before)) (length (number_bytes e.symbol)) (length (children_bytes f.after)) (fork_length A B f)
+  -- the bytes of a context but for its part, counted up to TOO_LONG
+  pub context_sum : (a b c d x r : ℕ) → a ≡ length (number_bytes f.value) → b ≡ length (number_bytes (length (word f.before ++ e.symbol ∷ word f.after))) → c ≡ length (number_bytes e.symbol) → d ≡ min (length (children_bytes f.before)) TOO_LONG → x ≡ min (length (children_bytes f.after)) TOO_LONG → r ≡ min (a + b + c + min (d + x) TOO_LONG) TOO_LONG → r ≡ context_bytes A B f
+  context_sum = by (length (bytes_before A B f) + length (bytes_after A B f)) (length (number_bytes f.value)) (length (number_bytes (length (word f.before ++ e.symbol ∷ word f.after)))) (length (children_bytes f.before)) (length (number_bytes e.symbol)) (length (children_bytes f.after)) (context_length A B f)
     where
       by : (n v m y s z : ℕ) → n ≡ v + (m + (y + (s + z))) → (a b c d x r : ℕ) → a ≡ v → b ≡ m → c ≡ s → d ≡ min y TOO_LONG → x ≡ min z TOO_LONG → r ≡ min (a + b + c + min (d + x) TOO_LONG) TOO_LONG → r ≡ min n TOO_LONG
       by n v m y s z is a b c d x r p q t u w o = omega (arith, is, p, q, t, u, w, o)

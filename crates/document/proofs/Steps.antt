@@ -1,5 +1,5 @@
 -- The steps of a path: their levels, and the bytes before and after what the path goes on to. Assumes nothing.
-use Rattle.std.proofs.Common.{◌≡◌, ℕ, zero, suc, ◌+◌, List, [], ◌∷◌, ◌++◌, length, drop, map, Some, sym, refl, ap, ◌∙◌, append_assoc}
+use Rattle.std.proofs.Common.{◌≡◌, ℕ, zero, suc, ◌+◌, List, [], ◌∷◌, ◌++◌, drop, Some, sym, refl, ap, ◌∙◌, append_assoc}
 use Rattle.std.specs.List.{slice_get}
 use Rattle.std.proofs.lemmas.List.{append-nil, map-append}
 use Rattle.std.proofs.lemmas.Option.{none-some, same_Some}
@@ -8,7 +8,7 @@ use Rattle.codec.specs.declared.item.Level.{Level}
 use Rattle.schema.specs.Automata.{Automaton}
 use Rattle.samples.specs.declared.node.NodeKey.{NodeKey}
 use Rattle.compare.specs.declared.pairs.Listed.{Listed}
-use Rattle.document.specs.Forks.{bytes_before, bytes_after}
+use Rattle.document.specs.Contexts.{bytes_before, bytes_after}
 use Rattle.document.specs.Steps.{PathStep, level_at, levels_of, all_before, all_after}
 
 module _ {A B : Automaton} {es : List Listed} where
@@ -35,16 +35,16 @@ module _ {A B : Automaton} {es : List Listed} where
   heads_begin [] (suc i) = ([], refl)
   heads_begin (s ∷ steps) (suc i) =
       let rest = heads_begin steps i in
-      (rest.0 ++ bytes_before A B s.fork, ap (λ (l : List ℕ). l ++ bytes_before A B s.fork) rest.1 ∙ append_assoc (all_before (drop i steps)) rest.0 (bytes_before A B s.fork))
+      (rest.0 ++ bytes_before A B s.context, ap (λ (l : List ℕ). l ++ bytes_before A B s.context) rest.1 ∙ append_assoc (all_before (drop i steps)) rest.0 (bytes_before A B s.context))
 
   -- with a step more at the front of the path
   pub marks_more : (steps : List (PathStep A B es)) (s : PathStep A B es) → levels_of (steps ++ s ∷ []) ≡ levels_of steps ++ level_at s.place ∷ []
   marks_more steps s = map-append (λ (p : PathStep A B es). level_at p.place) steps (s ∷ [])
 
-  pub heads_more : (steps : List (PathStep A B es)) (s : PathStep A B es) → all_before (steps ++ s ∷ []) ≡ bytes_before A B s.fork ++ all_before steps
-  heads_more [] s = sym (append-nil (bytes_before A B s.fork))
-  heads_more (p ∷ steps) s = ap (λ (l : List ℕ). l ++ bytes_before A B p.fork) (heads_more steps s) ∙ append_assoc (bytes_before A B s.fork) (all_before steps) (bytes_before A B p.fork)
+  pub heads_more : (steps : List (PathStep A B es)) (s : PathStep A B es) → all_before (steps ++ s ∷ []) ≡ bytes_before A B s.context ++ all_before steps
+  heads_more [] s = sym (append-nil (bytes_before A B s.context))
+  heads_more (p ∷ steps) s = ap (λ (l : List ℕ). l ++ bytes_before A B p.context) (heads_more steps s) ∙ append_assoc (bytes_before A B s.context) (all_before steps) (bytes_before A B p.context)
 
-  pub tails_more : (steps : List (PathStep A B es)) (s : PathStep A B es) → all_after (steps ++ s ∷ []) ≡ all_after steps ++ bytes_after A B s.fork
-  tails_more [] s = append-nil (bytes_after A B s.fork)
-  tails_more (p ∷ steps) s = ap (λ (l : List ℕ). bytes_after A B p.fork ++ l) (tails_more steps s) ∙ sym (append_assoc (bytes_after A B p.fork) (all_after steps) (bytes_after A B s.fork))
+  pub tails_more : (steps : List (PathStep A B es)) (s : PathStep A B es) → all_after (steps ++ s ∷ []) ≡ all_after steps ++ bytes_after A B s.context
+  tails_more [] s = append-nil (bytes_after A B s.context)
+  tails_more (p ∷ steps) s = ap (λ (l : List ℕ). bytes_after A B p.context ++ l) (tails_more steps s) ∙ sym (append_assoc (bytes_after A B p.context) (all_after steps) (bytes_after A B s.context))

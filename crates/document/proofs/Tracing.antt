@@ -20,15 +20,15 @@ use Rattle.compare.specs.Listing.{pair_links}
 use Rattle.document.specs.declared.trace.Step.{Step}
 use Rattle.samples.specs.declared.node.NodeKey.{NodeKey}
 use Rattle.document.specs.Documents.{AtEnd, Built, DocumentOf}
-use Rattle.document.specs.Forks.{bytes_before, bytes_after, filled}
+use Rattle.document.specs.Contexts.{bytes_before, bytes_after, filled}
 use Rattle.document.specs.Steps.{EndBytes, PathStep, StepsBack, Traced, TracesBack, all_before, level_at, levels_of, all_after}
 use Rattle.document.specs.Nodes.{NodeOrNone}
 use Rattle.samples.specs.declared.size.TheConstants.{TOO_LONG}
 use Rattle.samples.specs.Kept.{needed}
 use Rattle.samples.proofs.Growing.{SampledChildren}
-use Rattle.document.proofs.Lengths.{needed_joined, capped_right}
+use Rattle.document.proofs.Lengths.{needed_filled, capped_right}
 use Rattle.document.proofs.Onward.{document_onward, document_splits, document_of}
-use Rattle.document.proofs.Splitting.{joined_built, joined_bytes, end_with}
+use Rattle.document.proofs.Splitting.{filled_built, filled_bytes, end_with}
 use Rattle.document.proofs.Steps.{heads_more, marks_more, tails_more}
 
 -- where a slot is left the entry goes on top
@@ -60,10 +60,10 @@ module _ (A B : Automaton) (k : Kind) (es : List Listed) (i : ℕ) where
   pub record Point (at size : ℕ) (levels : List (Level NodeKey)) : Type 0 where
     pub pair : Listed
     pub there : slice_get es at ≡ Some pair
-    pub way : List Listed
-    pub onward : Onward pair_links es at i way
+    pub path : List Listed
+    pub onward : Onward pair_links es at i path
     pub tree : Tree
-    pub built : Built A B k pair.first pair.second way tree
+    pub built : Built A B k pair.first pair.second path tree
     pub bytes : size ≡ needed tree
     pub steps : List (PathStep A B es)
     pub few : at + length steps ≤ i
@@ -80,7 +80,7 @@ module _ (A B : Automaton) (k : Kind) (es : List Listed) (i : ℕ) where
       record {
         pair = x;
         there = there;
-        way = [];
+        path = [];
         onward = refl;
         tree = t;
         built = built;
@@ -100,22 +100,22 @@ module _ (A B : Automaton) (k : Kind) (es : List Listed) (i : ℕ) where
   goes_back at size levels s p (step, place, up, bytes) =
       let e = step.pair in
       let x = step.from in
-      let f = step.fork in
+      let f = step.context in
       let there : slice_get es at ≡ Some e = ap (slice_get es) (sym place) ∙ step.led.there in
       let before : e.parent < at = omega (arith, place, step.led.before) in
       let same : p.pair ≡ e = same_Some _ _ (sym p.there ∙ there) in
-      let built : Built A B k e.first e.second p.way p.tree = subst (λ (y : Listed). Built A B k y.first y.second p.way p.tree) same p.built in
+      let built : Built A B k e.first e.second p.path p.tree = subst (λ (y : Listed). Built A B k y.first y.second p.path p.tree) same p.built in
       let around = ap (λ (l : List ℕ). bytes_before A B f ++ (l ++ bytes_after A B f)) p.parted ∙ regrouped (bytes_before A B f) (all_before p.steps) (tree_bytes p.part) (all_after p.steps) (bytes_after A B f) in
       record {
         pair = x;
         there = ap (slice_get es) up ∙ step.led.parent;
-        way = e ∷ p.way;
-        onward = subst (λ (j : ℕ). Onward pair_links es j i (e ∷ p.way)) (sym up) (onward_more pair_links es at i e p.way p.onward there before);
+        path = e ∷ p.path;
+        onward = subst (λ (j : ℕ). Onward pair_links es j i (e ∷ p.path)) (sym up) (onward_more pair_links es at i e p.path p.onward there before);
         tree = filled A B f p.tree;
-        built = joined_built A B k x.first x.second e p.way f p.tree built;
+        built = filled_built A B k x.first x.second e p.path f p.tree built;
         bytes =
             ap (λ (n : ℕ). min (size + n) TOO_LONG) bytes ∙ capped_right size (length (bytes_before A B f) + length (bytes_after A B f))
-            ∙ ap (λ (n : ℕ). min (n + (length (bytes_before A B f) + length (bytes_after A B f))) TOO_LONG) p.bytes ∙ sym (needed_joined A B f p.tree);
+            ∙ ap (λ (n : ℕ). min (n + (length (bytes_before A B f) + length (bytes_after A B f))) TOO_LONG) p.bytes ∙ sym (needed_filled A B f p.tree);
         steps = p.steps ++ step ∷ [];
         few = omega (arith, length_push p.steps step, p.few, up, before);
         marked = ap (λ (ls : List (Level NodeKey)). ls ++ level_at at ∷ []) p.marked ∙ ap (λ (n : ℕ). levels_of p.steps ++ level_at n ∷ []) (sym place) ∙ sym (marks_more p.steps step);
@@ -123,7 +123,7 @@ module _ (A B : Automaton) (k : Kind) (es : List Listed) (i : ℕ) where
         listed = p.listed;
         part = p.part;
         ends = p.ends;
-        parted = joined_bytes A B f p.tree ∙ around ∙ (λ j. sym (heads_more p.steps step) j ++ (tree_bytes p.part ++ sym (tails_more p.steps step) j));
+        parted = filled_bytes A B f p.tree ∙ around ∙ (λ j. sym (heads_more p.steps step) j ++ (tree_bytes p.part ++ sym (tails_more p.steps step) j));
       }
 
   -- the broken pair of a document is listed
@@ -142,25 +142,25 @@ module _ (A B : Automaton) (k : Kind) (es : List Listed) (i : ℕ) where
       none x.0 part.0 x.1 part.1
 
   -- nor where no step goes on
-  pub no_way_back : (at size : ℕ) (levels : List (Level NodeKey)) → Point at size levels → 0 < at → StepsBack A B es at None → (whole : List Listed) (t : Tree) → DocumentOf A B k es i whole t → ⊥
-  no_way_back at size levels p some none whole t d =
-      let through = path_through pair_links es at i p.way whole d.leads p.onward in
+  pub no_path_back : (at size : ℕ) (levels : List (Level NodeKey)) → Point at size levels → 0 < at → StepsBack A B es at None → (whole : List Listed) (t : Tree) → DocumentOf A B k es i whole t → ⊥
+  no_path_back at size levels p some none whole t d =
+      let through = path_through pair_links es at i p.path whole d.leads p.onward in
       by (reverse through.0) through.1
     where
       by : (back : List Listed) → PathBack pair_links es at back → ⊥
       by [] c = omega (arith, c)
       by (e ∷ back) c =
           let x = nth_inside es e.parent (omega (arith, c.1, slice_get_within es at e c.0)) in
-          let split = document_splits A B k es i whole t d e.parent x.0 e p.way x.1 (onward_more pair_links es at i e p.way p.onward c.0 c.1) in
-          none e x.0 (record { there = c.0; before = c.1; parent = x.1 }) split.1.fork
+          let split = document_splits A B k es i whole t d e.parent x.0 e p.path x.1 (onward_more pair_links es at i e p.path p.onward c.0 c.1) in
+          none e x.0 (record { there = c.0; before = c.1; parent = x.1 }) split.1.context
 
   -- at the first pair it ends with the document, where that is the pair (0, 0)
   pub arrives : (size : ℕ) (levels : List (Level NodeKey)) → (p : Point 0 size levels) → p.pair.first ≡ 0 → p.pair.second ≡ 0 → Traced A B es k i size levels
   arrives size levels p first second =
       record {
-        path = p.way;
+        path = p.path;
         tree = p.tree;
-        document = document_of A B k es i p.pair p.way p.tree p.there first second p.onward p.built;
+        document = document_of A B k es i p.pair p.path p.tree p.there first second p.onward p.built;
         bytes = p.bytes;
         steps = p.steps;
         few = omega (arith, p.few);

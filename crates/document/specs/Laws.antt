@@ -8,7 +8,7 @@ use Rattle.document.specs.Writing.{DocumentByNotHolder, OneDocumenting}
 -- the laws of the call and of its documents
 pub record DocumentLaws : Type 0 where
   pub once : OneDocumenting
-  pub stranger : DocumentByNotHolder
+  pub not_holder : DocumentByNotHolder
   pub apart : TellsApart
   pub one : OneDocument
   pub exists : HasDocument

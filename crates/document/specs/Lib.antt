@@ -1,7 +1,8 @@
+pub mod Contexts
+pub mod Counterexamples
 pub mod Documents
-pub mod Forks
 pub mod Laws
 pub mod Nodes
-pub mod Passing
+pub mod PathNodes
 pub mod Steps
 pub mod Writing

@@ -1,4 +1,5 @@
--- Nodes of a document, what they begin with: the value and the children's symbols of one on the way, and of the one at its end. Assumes nothing.
+-- Nodes of a document, what they begin with: the value and the children's symbols of one on the
+-- path, and of the one at its end. Assumes nothing.
 use Rattle.std.specs.Prelude.{◌≡◌, ℕ, ◌<◌, Bool, true, List, ◌∷◌, ◌++◌, length, Some, None, Option, slice_index}
 use Rattle.std.specs.Borrow.{Bor}
 use Rattle.domain.specs.Sets.{Smallest}
@@ -17,7 +18,8 @@ abbrev pub NodeOrNone : (ℕ → List ℕ → Type 0) → Option (Node NODE_SYMB
 NodeOrNone P (Some n) = P n.value n.word
 NodeOrNone P None = (v : ℕ) (w : List ℕ) → P v w → ⊥
 
--- the least value of a state, and the shortest live sequence that passes the test, of equally short ones the first
+-- the least value of a state, and the shortest live sequence that passes the test, of equally short
+-- ones the first
 abbrev pub LeastWith : Automaton → ℕ → (List ℕ → Bool) → ℕ → List ℕ → Type 0
 LeastWith A p test v w = Smallest (A.has p) (Some v) × First (λ u. LiveSequence A p u × (test u ≡ true)) w
 
@@ -31,7 +33,8 @@ abbrev pub Around : ℕ → List ℕ → Option (Bor (List ℕ) × Bor (List ℕ
 Around a w (Some s) = (w ≡ s.0.now ++ a ∷ s.1.now) × (Holds a s.0.now → ⊥)
 Around a w None = Holds a w → ⊥
 
--- the mask is that of the first schema's live states, the samples are theirs, and the pairs are listed inside the two state counts
+-- the mask is that of the first schema's live states, the samples are theirs, and the pairs are
+-- listed inside the two state counts
 pub record Ready {D : Type 0} (holds : D → ℕ → Bool) (c : Counterexample D) : Type 0 where
   pub live : MarksLive holds c.compared
   pub samples : HasSamples holds c.compared.first.now c.samples

@@ -1,4 +1,5 @@
--- Going from a broken pair back along the pairs that led to it: the node of each step, and what is left of the path. Assumes nothing.
+-- Going from a broken pair back along the pairs that led to it: the node of each step, and what is
+-- left of the path. Assumes nothing.
 use Rattle.std.specs.Prelude.{◌≡◌, ℕ, ◌<◌, ◌≤◌, List, [], ◌∷◌, ◌++◌, length, map, Some, None, Option}
 use Rattle.std.specs.List.{slice_get}
 use Rattle.codec.specs.declared.item.Level.{Level}
@@ -12,7 +13,7 @@ use Rattle.compare.specs.declared.pairs.Listed.{Listed}
 use Rattle.compare.specs.declared.phase.Kind.{Kind}
 use Rattle.document.specs.declared.trace.Step.{Step}
 use Rattle.document.specs.Documents.{Built, DocumentOf}
-use Rattle.document.specs.Forks.{Context, context_bytes, bytes_before, bytes_after}
+use Rattle.document.specs.Contexts.{Context, context_bytes, bytes_before, bytes_after}
 
 -- the level of the pair at a place of the list
 abbrev pub level_at : ℕ → Level NodeKey
@@ -24,46 +25,58 @@ pub record LedFrom (es : List Listed) (i : ℕ) (e x : Listed) : Type 0 where
   pub before : e.parent < i
   pub parent : slice_get es e.parent ≡ Some x
 
--- a step of a path: the place of a pair, the pair, the one that led to it, and the node there from which the path goes on
+-- a step of a path: the place of a pair, the pair, the one that led to it, and the node there from
+-- which the path goes on
 pub record PathStep (A B : Automaton) (es : List Listed) : Type 0 where
   pub place : ℕ
   pub pair : Listed
   pub from : Listed
   pub led : LedFrom es place pair from
-  pub fork : Context A B from.first from.second pair
+  pub context : Context A B from.first from.second pair
 
 module _ {A B : Automaton} {es : List Listed} where
   -- the levels of the steps' pairs
   abbrev pub levels_of : List (PathStep A B es) → List (Level NodeKey)
   levels_of steps = map (λ s. level_at s.place) steps
 
-  -- the bytes before the tree that the path goes on to, where these are the steps from its last one back
+  -- the bytes of a step's node before the tree that the path goes on to, and after it
+  abbrev pub step_before : PathStep A B es → List ℕ
+  step_before s = bytes_before A B s.context
+
+  abbrev pub step_after : PathStep A B es → List ℕ
+  step_after s = bytes_after A B s.context
+
+  -- the bytes before the tree that the path goes on to, where these are the steps from its last one
+  -- back
   abbrev pub all_before : List (PathStep A B es) → List ℕ
   all_before [] = []
-  all_before (s ∷ steps) = all_before steps ++ bytes_before A B s.fork
+  all_before (s ∷ steps) = all_before steps ++ step_before s
 
   -- and those after it
   abbrev pub all_after : List (PathStep A B es) → List ℕ
   all_after [] = []
-  all_after (s ∷ steps) = bytes_after A B s.fork ++ all_after steps
+  all_after (s ∷ steps) = step_after s ++ all_after steps
 
 module _ (A B : Automaton) (es : List Listed) where
-  -- one step back from the pair at i: where it comes to, and the bytes of the node there but for the tree of the child that goes on; none,
-  -- where no node goes on so
+  -- one step back from the pair at i: where it comes to, and the bytes of the node there but for
+  -- the tree of the child that goes on; none, where no node goes on so
   abbrev pub StepsBack : ℕ → Option Step → Type 0
   StepsBack i (Some s) =
-      (p : PathStep A B es) × (p.place ≡ i) × (s.at ≡ p.pair.parent) × (s.size ≡ context_bytes A B p.fork)
+      (p : PathStep A B es) × (p.place ≡ i) × (s.at ≡ p.pair.parent) × (s.size ≡ context_bytes A B p.context)
   StepsBack i None = (e x : Listed) → LedFrom es i e x → Context A B x.first x.second e → ⊥
 
-  -- the bytes needed for the tree that is built from the pair at i on, which is broken in a kind; none, where there is no such tree
+  -- the bytes needed for the tree that is built from the pair at i on, which is broken in a kind;
+  -- none, where there is no such tree
   abbrev pub EndBytes : Kind → ℕ → Option ℕ → Type 0
   EndBytes k i (Some size) =
-      (x : Listed) × (t : Tree) × (slice_get es i ≡ Some x) × Built A B k x.first x.second [] t × (size ≡ needed t)
+      (x : Listed) × (t : Tree) × (slice_get es i ≡ Some x) × Built A B k x.first x.second [] t
+      × (size ≡ needed t)
   EndBytes k i None =
       (x : Listed) (t : Tree) → slice_get es i ≡ Some x → Built A B k x.first x.second [] t → ⊥
 
-  -- what is found of the pair at i, which is broken in a kind: the document, the bytes needed for it, and the levels of the path to it, its
-  -- last pair at the bottom; and how the document's bytes are parted by the path
+  -- what is found of the pair at i, which is broken in a kind: the document, the bytes needed for
+  -- it, and the levels of the path to it, its last pair at the bottom; and how the document's bytes
+  -- are parted by the path
   pub record Traced (k : Kind) (i size : ℕ) (levels : List (Level NodeKey)) : Type 0 where
     pub path : List Listed
     pub tree : Tree

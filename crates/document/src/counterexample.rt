@@ -1,4 +1,5 @@
-//! What a document is written from, and what its nodes begin with: one on the path, and the one at its end.
+//! What a document is written from, and what its nodes begin with: one on the path, and the one at
+//! its end.
 ghost use Rattle.compare.specs.declared.phase.Kind.TheVariants.{Value};
 ghost use Rattle.compare.specs.Schemas.{StatePair};
 ghost use Rattle.schema.specs.Meaning.{meaning, IsState};
@@ -20,7 +21,8 @@ use search::watcher::Watcher;
 use search::watchers::{Holding, Refused};
 use search::word::Word;
 
-/// The most symbols of a node's children: a search goes through no pair of a row and a watcher's state twice.
+/// The most symbols of a node's children: a search goes through no pair of a row and a watcher's
+/// state twice.
 pub const NODE_SYMBOLS: usize = ROW_PAIRS - 1;
 
 /// Where a symbol stands first in a sequence.
@@ -38,7 +40,8 @@ pub fn around(word: &[u8], symbol: u8) -> Option<(&[u8], &[u8])>
     Some((&word[..place], &word[place + 1..]))
 }
 
-/// Two schemas that a pair of their states tells apart: with the samples of the first, the listed pairs, and how the broken one is broken.
+/// Two schemas that a pair of their states tells apart: with the samples of the first, the listed
+/// pairs, and how the broken one is broken.
 #[derive(Drop)]
 pub struct Counterexample<'a, 'b, 'c, 'd, 'e, D> {
     pub compared: Compared<'a, 'b, 'c, 'd, D>,
@@ -48,7 +51,8 @@ pub struct Counterexample<'a, 'b, 'c, 'd, 'e, D> {
 }
 
 impl<D: Domain> Counterexample<'_, '_, '_, '_, '_, D> {
-    /// The node at a state with its least value, and the shortest live sequence that the watcher wants, of equally short ones the first.
+    /// The node at a state with its least value, and the shortest live sequence that the watcher
+    /// wants, of equally short ones the first.
     fn least_with<W: Watcher>(
         &self,
         state: u8,
@@ -86,10 +90,11 @@ impl<D: Domain> Counterexample<'_, '_, '_, '_, '_, D> {
         self.least_with(state, &Holding::new(symbol), slots)
     }
 
-    /// The node at the end, a pair of states that is broken in value: the smallest value in the first state's domain alone, with the sequence
-    /// of the state's sample.
+    /// The node at the end, a pair of states that is broken in value: the smallest value in the
+    /// first state's domain alone, with the sequence of the state's sample.
     fn gap_node(&self, pair: Listed) -> Option<Node<NODE_SYMBOLS>>
-        ensures { Ready D.Domain.holds self.now → StatePair self.now.compared pair.first pair.second →
+        ensures { Ready D.Domain.holds self.now →
+            StatePair self.now.compared pair.first pair.second →
             let A = meaning D.Domain.holds self.now.compared.first.now in
             let B = meaning D.Domain.holds self.now.compared.second.now in
             NodeOrNone (AtEnd A B Value pair.first pair.second) result }
@@ -105,7 +110,8 @@ impl<D: Domain> Counterexample<'_, '_, '_, '_, '_, D> {
 
     /// The node at the end.
     pub fn node_at_end(&self, pair: Listed, slots: &mut RowSlots) -> Option<Node<NODE_SYMBOLS>>
-        ensures { Ready D.Domain.holds self.now → StatePair self.now.compared pair.first pair.second →
+        ensures { Ready D.Domain.holds self.now →
+            StatePair self.now.compared pair.first pair.second →
             let A = meaning D.Domain.holds self.now.compared.first.now in
             let B = meaning D.Domain.holds self.now.compared.second.now in
             NodeOrNone (AtEnd A B self.now.kind pair.first pair.second) result }

@@ -1,16 +1,16 @@
-//! The document of a comparison that came out apart: a tree that the first schema accepts and the second does not.
+//! The document of a comparison that came out apart: a tree that the first schema accepts and the
+//! second does not.
 ghost use Rattle.std.specs.Prelude.{◌≡◌, ◌≤◌, None, length};
 ghost use Rattle.refusal.specs.Order.{Refuses};
 ghost use Rattle.schema.specs.declared.tables.TheConstants.{STATES};
 ghost use Rattle.schema.specs.Meaning.{meaning, tables_of};
 ghost use Rattle.schema.specs.Tables.{tables, sets};
-ghost use Rattle.compare.specs.Listing.{entries_of};
 ghost use Rattle.compare.specs.Refusals.{other_counts};
 ghost use Rattle.compare.specs.View.{view};
 ghost use Rattle.document.specs.declared.document.TheConstants.{LEVELS};
 ghost use Rattle.document.specs.Laws.{DocumentLaws, DocumentLimits};
 ghost use Rattle.document.specs.Nodes.{Ready};
-ghost use Rattle.document.specs.Steps.{Traced};
+ghost use Rattle.document.specs.Counterexamples.{TracedIn};
 ghost use Rattle.document.specs.Writing.{Documenting, DocumentAnswer, TreeAnswer, document_kept_from};
 
 use crate::counterexample::Counterexample;
@@ -32,11 +32,12 @@ use schema::tested::Tested;
 use search::pairs::RowPair;
 use search::slots::RowSlots;
 
-/// How many levels have to be lent: one for each pair that a way can have, and one for each level of a sample.
+/// How many levels have to be lent: one for each pair that a path can have, and one for each level
+/// of a sample.
 pub const LEVELS: usize = PLACES + STATES;
 
-/// The row pairs for a document of the claim, or what keeps two schemas from it before any is looked for: `symbols`, `foreign`, `ousted`,
-/// `schemas`, `early` or `scratch`.
+/// The row pairs for a document of the claim, or what keeps two schemas from it before any is
+/// looked for: `symbols`, `foreign`, `ousted`, `schemas`, `early` or `scratch`.
 fn permits<'a, D>(
     area: &Area,
     first: &Tested<D>,
@@ -46,7 +47,8 @@ fn permits<'a, D>(
     levels: usize,
 ) -> Result<RowSlots<'a>, Refusal>
     ensures { Refuses
-        (document_kept_from (view area.now) (tables_of first.now) (tables_of second.now) claim (length scratch.old) levels)
+        (document_kept_from (view area.now) (tables_of first.now) (tables_of second.now)
+        claim (length scratch.old) levels)
         result }
 {
     let slots = permits_write(area, first, second, claim, scratch)?;
@@ -57,7 +59,8 @@ fn permits<'a, D>(
 }
 
 impl<D: Domain> Counterexample<'_, '_, '_, '_, '_, D> {
-    /// Writes the document that was traced at the output's front, and tells its length; or `room`, where it is too long.
+    /// Writes the document that was traced at the output's front, and tells its length; or `room`,
+    /// where it is too long.
     fn write_traced(
         &self,
         place: usize,
@@ -67,9 +70,7 @@ impl<D: Domain> Counterexample<'_, '_, '_, '_, '_, D> {
         bytes: &mut [u8],
     ) -> Result<usize, Refusal>
         ensures { Ready D.Domain.holds self.now → STATES ≤ length levels.old.free →
-            let A = meaning D.Domain.holds self.now.compared.first.now in
-            let B = meaning D.Domain.holds self.now.compared.second.now in
-            (d : Traced A B (entries_of self.now.pairs.now) self.now.kind place size levels.old.entries) →
+            (d : TracedIn D.Domain.holds self.now place size levels.old.entries) →
             TreeAnswer d.tree bytes.old result bytes.new }
     {
         let room = Fault::Room.at(size as usize);
@@ -82,7 +83,8 @@ impl<D: Domain> Counterexample<'_, '_, '_, '_, '_, D> {
     }
 }
 
-/// Writes the document of the area's broken pair at the output's front, and tells its length; or `schemas` or `room`. LEVELS levels are lent.
+/// Writes the document of the area's broken pair at the output's front, and tells its length; or
+/// `schemas` or `room`. LEVELS levels are lent.
 fn write_document<D: Domain>(
     area: &Area,
     first: &Tested<D>,
@@ -117,8 +119,9 @@ fn write_document<D: Domain>(
     counterexample.write_traced(broken.index, size, slots, &mut levels, bytes)
 }
 
-/// Writes the document of a comparison that came out apart at the output's front, and tells its length. The claim is told by its two numbers.
-/// Or `size`, `state`, `row`, `domain`, `symbols`, `foreign`, `ousted`, `schemas`, `early`, `scratch` or `room`, and the output is as it was. The
+/// Writes the document of a comparison that came out apart at the output's front, and tells its
+/// length. The claim is told by its two numbers. Or `size`, `state`, `row`, `domain`, `symbols`,
+/// `foreign`, `ousted`, `schemas`, `early`, `scratch` or `room`, and the output is as it was. The
 /// row pairs and levels hold anything afterwards.
 #[tactic(auto, using(crate::proofs::Laws::document_laws))]
 pub fn document<D: Domain>(

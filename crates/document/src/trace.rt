@@ -4,14 +4,12 @@ ghost use Rattle.codec.specs.Piles.{slots as slots_of};
 ghost use Rattle.codec.specs.Trees.{Children, node as node_of, word as word_of};
 ghost use Rattle.schema.specs.Meaning.{meaning, IsState};
 ghost use Rattle.samples.specs.Kept.{needed};
-ghost use Rattle.samples.specs.Samples.{Samples as AreSamples};
 ghost use Rattle.compare.specs.declared.pairs.TheConstants.{PLACES};
 ghost use Rattle.compare.specs.declared.pairs.Listed.{Listed as ListedPair};
-ghost use Rattle.compare.specs.Listing.{entries_of};
 ghost use Rattle.document.specs.Documents.{LeadsTo};
-ghost use Rattle.document.specs.Forks.{Context, context_bytes};
+ghost use Rattle.document.specs.Contexts.{Context, context_bytes};
 ghost use Rattle.document.specs.Nodes.{Ready};
-ghost use Rattle.document.specs.Steps.{EndBytes, StepsBack, TracesBack};
+ghost use Rattle.document.specs.Counterexamples.{EndBytesIn, SamplesIn, StepsBackIn, TracesBackIn};
 
 use crate::counterexample::{Counterexample, NODE_SYMBOLS, around};
 use codec::item::Level;
@@ -24,7 +22,8 @@ use samples::node::{Node, NodeKey};
 use samples::size::add;
 use search::slots::RowSlots;
 
-/// One step back: where the pair is that led here, and the bytes of its node but for the tree of the child that goes on.
+/// One step back: where the pair is that led here, and the bytes of its node but for the tree of
+/// the child that goes on.
 #[derive(Clone, Copy, Debug, PartialEq, Eq)]
 struct Step {
     at: usize,
@@ -35,7 +34,7 @@ impl<D: Domain> Counterexample<'_, '_, '_, '_, '_, D> {
     /// How many bytes the node at the end has with its children, up to TOO_LONG.
     fn end_size(&self, state: u8, node: &Node<NODE_SYMBOLS>) -> u32
         ensures { Ready D.Domain.holds self.now → IsState self.now.compared.first.now state →
-            (cs : Children) → AreSamples (meaning D.Domain.holds self.now.compared.first.now) state cs →
+            (cs : Children) → SamplesIn D.Domain.holds self.now state cs →
             word_of cs ≡ node.now.word →
             result ≡ needed (node_of node.now.value cs) }
     {
@@ -45,8 +44,9 @@ impl<D: Domain> Counterexample<'_, '_, '_, '_, '_, D> {
         add(head as u32, children)
     }
 
-    /// How many bytes a node on the path has but for the tree of the child that goes on, up to TOO_LONG.
-    fn fork_size(
+    /// How many bytes a node on the path has but for the tree of the child that goes on, up to
+    /// TOO_LONG.
+    fn context_size(
         &self,
         state: u8,
         node: &Node<NODE_SYMBOLS>,
@@ -58,7 +58,8 @@ impl<D: Domain> Counterexample<'_, '_, '_, '_, '_, D> {
             let A = meaning D.Domain.holds self.now.compared.first.now in
             let B = meaning D.Domain.holds self.now.compared.second.now in
             (q : ℕ) (e : ListedPair) (f : Context A B state q e) → e.symbol ≡ symbol →
-            f.value ≡ node.now.value → word_of f.before ++ e.symbol ∷ word_of f.after ≡ node.now.word →
+            f.value ≡ node.now.value →
+            word_of f.before ++ e.symbol ∷ word_of f.after ≡ node.now.word →
             word_of f.before ≡ before.now → word_of f.after ≡ after.now →
             result ≡ context_bytes A B f }
     {
@@ -73,7 +74,8 @@ impl<D: Domain> Counterexample<'_, '_, '_, '_, '_, D> {
         add(numbers as u32, others)
     }
 
-    /// Whether a pair's symbol leads both schemas from the states of the pair that led to it to its own.
+    /// Whether a pair's symbol leads both schemas from the states of the pair that led to it to its
+    /// own.
     fn leads(&self, from: Listed, pair: Listed) -> bool
         ensures { let A = meaning D.Domain.holds self.now.compared.first.now in
             let B = meaning D.Domain.holds self.now.compared.second.now in
@@ -86,9 +88,7 @@ impl<D: Domain> Counterexample<'_, '_, '_, '_, '_, D> {
     /// The step back from the pair at a place of the list.
     fn step(&self, place: usize, slots: &mut RowSlots) -> Option<Step>
         ensures back { Ready D.Domain.holds self.now →
-            let A = meaning D.Domain.holds self.now.compared.first.now in
-            let B = meaning D.Domain.holds self.now.compared.second.now in
-            StepsBack A B (entries_of self.now.pairs.now) place result }
+            StepsBackIn D.Domain.holds self.now place result }
         ensures low { IfSome result (λ s. (s.at < place) × (place < PLACES)) }
     {
         let pair = led_to(self.pairs, place)?;
@@ -99,35 +99,32 @@ impl<D: Domain> Counterexample<'_, '_, '_, '_, '_, D> {
         }
         let node = self.node_on_path(from.first, pair.symbol, slots)?;
         let (before, after) = around(node.word.as_slice(), pair.symbol)?;
-        let size = self.fork_size(from.first, &node, pair.symbol, before, after);
+        let size = self.context_size(from.first, &node, pair.symbol, before, after);
         Some(Step { at, size })
     }
 
-    /// How many bytes the tree at the end has, for the broken pair at a place of the list, up to TOO_LONG.
+    /// How many bytes the tree at the end has, for the broken pair at a place of the list, up to
+    /// TOO_LONG.
     fn end(&self, place: usize, slots: &mut RowSlots) -> Option<u32>
-        ensures { Ready D.Domain.holds self.now →
-            let A = meaning D.Domain.holds self.now.compared.first.now in
-            let B = meaning D.Domain.holds self.now.compared.second.now in
-            EndBytes A B (entries_of self.now.pairs.now) self.now.kind place result }
+        ensures { Ready D.Domain.holds self.now → EndBytesIn D.Domain.holds self.now place result }
     {
         let pair = self.pairs.entry(place)?;
         let node = self.node_at_end(pair, slots)?;
         Some(self.end_size(pair.first, &node))
     }
 
-    /// Goes from the broken pair at a place of the list back to the pair (0, 0): how many bytes the document needs, up to TOO_LONG, or none
-    /// where there is no document. It leaves the levels of the pairs on the path, the broken one's at the bottom. Levels are lent for all
-    /// listed pairs.
+    /// Goes from the broken pair at a place of the list back to the pair (0, 0): how many bytes the
+    /// document needs, up to TOO_LONG, or none where there is no document. It leaves the levels of
+    /// the pairs on the path, the broken one's at the bottom. Levels are lent for all listed pairs.
     pub fn trace(
         &self,
         place: usize,
         slots: &mut RowSlots,
         levels: &mut Pile<Level<NodeKey>>,
     ) -> Option<u32>
-        ensures traced { Ready D.Domain.holds self.now → levels.old.entries ≡ [] → PLACES ≤ length levels.old.free →
-            let A = meaning D.Domain.holds self.now.compared.first.now in
-            let B = meaning D.Domain.holds self.now.compared.second.now in
-            TracesBack A B (entries_of self.now.pairs.now) self.now.kind place result levels.new.entries }
+        ensures traced { Ready D.Domain.holds self.now → levels.old.entries ≡ [] →
+            PLACES ≤ length levels.old.free →
+            TracesBackIn D.Domain.holds self.now place result levels.new.entries }
         ensures slots { slots_of levels.new ≡ slots_of levels.old }
     {
         let mut size = self.end(place, slots)?;

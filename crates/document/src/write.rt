@@ -7,15 +7,14 @@ ghost use Rattle.codec.specs.Trees.{Tree, Children, word as word_of};
 ghost use Rattle.schema.specs.declared.tables.TheConstants.{STATES};
 ghost use Rattle.schema.specs.Meaning.{meaning, IsState};
 ghost use Rattle.samples.specs.Outputs.{Within};
-ghost use Rattle.samples.specs.Samples.{Samples as AreSamples};
 ghost use Rattle.samples.specs.Writing.{Leaves};
 ghost use Rattle.compare.specs.declared.pairs.Listed.{Listed as ListedPair};
 ghost use Rattle.compare.specs.Listing.{entries_of};
 ghost use Rattle.document.specs.Documents.{Built};
-ghost use Rattle.document.specs.Forks.{bytes_before, bytes_after};
+ghost use Rattle.document.specs.Counterexamples.{SamplesIn, StepIn, TracedIn};
 ghost use Rattle.document.specs.Nodes.{Ready};
-ghost use Rattle.document.specs.Passing.{path_node_of};
-ghost use Rattle.document.specs.Steps.{PathStep, Traced, level_at, levels_of, all_before, all_after};
+ghost use Rattle.document.specs.PathNodes.{path_node_of};
+ghost use Rattle.document.specs.Steps.{level_at, levels_of, all_before, all_after, step_before, step_after};
 
 use crate::counterexample::{Counterexample, NODE_SYMBOLS, around};
 use codec::item::Level;
@@ -26,9 +25,10 @@ use samples::output::Output;
 use samples::writing::write_children;
 use search::slots::RowSlots;
 
-/// A node on the path: its state in the first schema, the symbol by which the path goes on, and what it begins with.
+/// A node on the path: its state in the first schema, the symbol by which the path goes on, and
+/// what it begins with.
 #[derive(Clone, Copy)]
-struct Passage {
+struct PathNode {
     state: u8,
     symbol: u8,
     node: Node<NODE_SYMBOLS>,
@@ -36,11 +36,9 @@ struct Passage {
 
 impl<D: Domain> Counterexample<'_, '_, '_, '_, '_, D> {
     /// The node from which the path goes on to the pair of a level.
-    fn passage(&self, level: Level<NodeKey>, slots: &mut RowSlots) -> Option<Passage>
+    fn path_node(&self, level: Level<NodeKey>, slots: &mut RowSlots) -> Option<PathNode>
         ensures { Ready D.Domain.holds self.now →
-            let A = meaning D.Domain.holds self.now.compared.first.now in
-            let B = meaning D.Domain.holds self.now.compared.second.now in
-            (s : PathStep A B (entries_of self.now.pairs.now)) → level ≡ level_at s.place →
+            (s : StepIn D.Domain.holds self.now) → level ≡ level_at s.place →
             result ≡ Some (path_node_of s) }
     {
         let NodeKey::Pair(place) = level.at else {
@@ -49,7 +47,7 @@ impl<D: Domain> Counterexample<'_, '_, '_, '_, '_, D> {
         let pair = self.pairs.entry(usize::from(place))?;
         let from = self.pairs.entry(usize::from(pair.parent))?;
         let node = self.node_on_path(from.first, pair.symbol, slots)?;
-        Some(Passage {
+        Some(PathNode {
             state: from.first,
             symbol: pair.symbol,
             node,
@@ -64,9 +62,10 @@ impl<D: Domain> Counterexample<'_, '_, '_, '_, '_, D> {
         levels: &mut Pile<Level<NodeKey>>,
         output: &mut Output,
     ) -> Option<()>
-        ensures written { Ready D.Domain.holds self.now → STATES ≤ length levels.old.free → Within output.old →
+        ensures written { Ready D.Domain.holds self.now → STATES ≤ length levels.old.free →
+            Within output.old →
             IsState self.now.compared.first.now state → (cs : Children) →
-            AreSamples (meaning D.Domain.holds self.now.compared.first.now) state cs → word_of cs ≡ word.now →
+            SamplesIn D.Domain.holds self.now state cs → word_of cs ≡ word.now →
             Leaves (children_bytes cs) levels.old.entries output.old result levels.new output.new }
         ensures slots { slots_of levels.new ≡ slots_of levels.old }
     {
@@ -80,63 +79,59 @@ impl<D: Domain> Counterexample<'_, '_, '_, '_, '_, D> {
         )
     }
 
-    /// Writes what a node on the path has before the tree of the child that goes on: its value, its child count, the children before, and the
-    /// symbol.
+    /// Writes what a node on the path has before the tree of the child that goes on: its value, its
+    /// child count, the children before, and the symbol.
     fn write_before(
         &self,
-        passage: &Passage,
+        path_node: &PathNode,
         levels: &mut Pile<Level<NodeKey>>,
         output: &mut Output,
     ) -> Option<()>
         ensures written { Ready D.Domain.holds self.now → STATES ≤ length levels.old.free →
-            let A = meaning D.Domain.holds self.now.compared.first.now in
-            let B = meaning D.Domain.holds self.now.compared.second.now in
-            (s : PathStep A B (entries_of self.now.pairs.now)) → passage.now ≡ path_node_of s →
-            Leaves (bytes_before A B s.fork) levels.old.entries output.old result levels.new output.new }
+            (s : StepIn D.Domain.holds self.now) → path_node.now ≡ path_node_of s →
+            Leaves (step_before s) levels.old.entries output.old result levels.new output.new }
         ensures slots { slots_of levels.new ≡ slots_of levels.old }
     {
-        let (before, _) = around(passage.node.word.as_slice(), passage.symbol)?;
-        output.head(passage.node.value, passage.node.word.len() as u32)?;
-        self.write_samples(passage.state, before, levels, output)?;
-        output.number(u32::from(passage.symbol))
+        let (before, _) = around(path_node.node.word.as_slice(), path_node.symbol)?;
+        output.head(path_node.node.value, path_node.node.word.len() as u32)?;
+        self.write_samples(path_node.state, before, levels, output)?;
+        output.number(u32::from(path_node.symbol))
     }
 
     /// Writes what it has after that tree: the children after.
     fn write_after(
         &self,
-        passage: &Passage,
+        path_node: &PathNode,
         levels: &mut Pile<Level<NodeKey>>,
         output: &mut Output,
     ) -> Option<()>
-        ensures written { Ready D.Domain.holds self.now → STATES ≤ length levels.old.free → Within output.old →
-            let A = meaning D.Domain.holds self.now.compared.first.now in
-            let B = meaning D.Domain.holds self.now.compared.second.now in
-            (s : PathStep A B (entries_of self.now.pairs.now)) → passage.now ≡ path_node_of s →
-            Leaves (bytes_after A B s.fork) levels.old.entries output.old result levels.new output.new }
+        ensures written { Ready D.Domain.holds self.now → STATES ≤ length levels.old.free →
+            Within output.old →
+            (s : StepIn D.Domain.holds self.now) → path_node.now ≡ path_node_of s →
+            Leaves (step_after s) levels.old.entries output.old result levels.new output.new }
         ensures slots { slots_of levels.new ≡ slots_of levels.old }
     {
-        let (_, after) = around(passage.node.word.as_slice(), passage.symbol)?;
-        self.write_samples(passage.state, after, levels, output)
+        let (_, after) = around(path_node.node.word.as_slice(), path_node.symbol)?;
+        self.write_samples(path_node.state, after, levels, output)
     }
 
-    /// Writes what the nodes on the path have before the trees of the children that go on, from the first node down. The levels are those of
-    /// the path's pairs, the last one's at the bottom.
+    /// Writes what the nodes on the path have before the trees of the children that go on, from the
+    /// first node down. The levels are those of the path's pairs, the last one's at the bottom.
     fn write_down(
         &self,
         slots: &mut RowSlots,
         levels: &mut Pile<Level<NodeKey>>,
         output: &mut Output,
     ) -> Option<()>
-        ensures written { Ready D.Domain.holds self.now → STATES ≤ length levels.old.free → Within output.old →
-            let A = meaning D.Domain.holds self.now.compared.first.now in
-            let B = meaning D.Domain.holds self.now.compared.second.now in
-            (steps : List (PathStep A B (entries_of self.now.pairs.now))) → levels.old.entries ≡ levels_of steps →
+        ensures written { Ready D.Domain.holds self.now → STATES ≤ length levels.old.free →
+            Within output.old →
+            (steps : List (StepIn D.Domain.holds self.now)) → levels.old.entries ≡ levels_of steps →
             Leaves (all_before steps) levels.old.entries output.old result levels.new output.new }
         ensures slots { slots_of levels.new ≡ slots_of levels.old }
     {
         for index in (0..levels.len()).rev() {
-            let passage = self.passage(levels.read(index)?, slots)?;
-            self.write_before(&passage, levels, output)?;
+            let path_node = self.path_node(levels.read(index)?, slots)?;
+            self.write_before(&path_node, levels, output)?;
         }
         Some(())
     }
@@ -148,16 +143,15 @@ impl<D: Domain> Counterexample<'_, '_, '_, '_, '_, D> {
         levels: &mut Pile<Level<NodeKey>>,
         output: &mut Output,
     ) -> Option<()>
-        ensures written { Ready D.Domain.holds self.now → STATES ≤ length levels.old.free → Within output.old →
-            let A = meaning D.Domain.holds self.now.compared.first.now in
-            let B = meaning D.Domain.holds self.now.compared.second.now in
-            (steps : List (PathStep A B (entries_of self.now.pairs.now))) → levels.old.entries ≡ levels_of steps →
+        ensures written { Ready D.Domain.holds self.now → STATES ≤ length levels.old.free →
+            Within output.old →
+            (steps : List (StepIn D.Domain.holds self.now)) → levels.old.entries ≡ levels_of steps →
             Leaves (all_after steps) levels.old.entries output.old result levels.new output.new }
         ensures slots { slots_of levels.new ≡ slots_of levels.old }
     {
         for index in 0..levels.len() {
-            let passage = self.passage(levels.read(index)?, slots)?;
-            self.write_after(&passage, levels, output)?;
+            let path_node = self.path_node(levels.read(index)?, slots)?;
+            self.write_after(&path_node, levels, output)?;
         }
         Some(())
     }
@@ -184,8 +178,8 @@ impl<D: Domain> Counterexample<'_, '_, '_, '_, '_, D> {
         self.write_samples(pair.first, node.word.as_slice(), levels, output)
     }
 
-    /// Writes the document for the broken pair at a place of the list, with the levels that tracing its path has left; STATES levels are wanted
-    /// above those.
+    /// Writes the document for the broken pair at a place of the list, with the levels that tracing
+    /// its path has left; STATES levels are wanted above those.
     pub fn write(
         &self,
         place: usize,
@@ -193,10 +187,9 @@ impl<D: Domain> Counterexample<'_, '_, '_, '_, '_, D> {
         levels: &mut Pile<Level<NodeKey>>,
         output: &mut Output,
     ) -> Option<()>
-        ensures written { Ready D.Domain.holds self.now → STATES ≤ length levels.old.free → Within output.old →
-            let A = meaning D.Domain.holds self.now.compared.first.now in
-            let B = meaning D.Domain.holds self.now.compared.second.now in
-            (size : ℕ) (d : Traced A B (entries_of self.now.pairs.now) self.now.kind place size levels.old.entries) →
+        ensures written { Ready D.Domain.holds self.now → STATES ≤ length levels.old.free →
+            Within output.old →
+            (size : ℕ) (d : TracedIn D.Domain.holds self.now place size levels.old.entries) →
             Leaves (tree_bytes d.tree) levels.old.entries output.old result levels.new output.new }
         ensures slots { slots_of levels.new ≡ slots_of levels.old }
     {

@@ -1,7 +1,7 @@
 -- Samples are accepted. Assumes nothing.
-use Rattle.std.proofs.Common.{◌≡◌, ℕ, true, Some, sym, refl, subst}
+use Rattle.std.proofs.Common.{◌≡◌, ℕ, true, sym, refl, subst}
 use Rattle.std.proofs.lemmas.Bool.{and_from}
-use Rattle.codec.specs.Trees.{Tree, node, Children, none, child, word}
+use Rattle.codec.specs.Trees.{Tree, node, Children, none, child}
 use Rattle.schema.specs.Automata.{Automaton, passes, accepts, accepts_all}
 use Rattle.samples.specs.Samples.{Sample, Samples}
 

@@ -8,7 +8,7 @@ use Rattle.codec.specs.Trees.{Tree, node, Children, none, child, word, height, h
 use Rattle.domain.specs.Sets.{Smallest}
 use Rattle.schema.specs.Automata.{Automaton}
 use Rattle.schema.specs.Live.{Live, LiveSequence, Rank}
-use Rattle.samples.specs.Samples.{Lower, SampleSequence, Sample, Samples}
+use Rattle.samples.specs.Samples.{LeadsLower, SampleSequence, Sample, Samples}
 use Rattle.samples.proofs.Accepting.{sample_accepted}
 
 module _ (A : Automaton) where
@@ -56,7 +56,7 @@ module _ (A : Automaton) where
     pub sample_low : (q m : ℕ) (t : Tree) → Rank A q m → Sample A q t → height t ≤ m
     sample_low q m (node v cs) r s = samples_low q m cs r s.1.passes.1 s.2
 
-    samples_low : (q m : ℕ) (cs : Children) → Rank A q m → AllByRecursion (λ a. (s : ℕ) × (A.next q a ≡ Some s) × Lower A s q) (word cs) → Samples A q cs → heights cs ≤ m
+    samples_low : (q m : ℕ) (cs : Children) → Rank A q m → AllByRecursion (LeadsLower A q) (word cs) → Samples A q cs → heights cs ≤ m
     samples_low q m none r lower s = omega arith
     samples_low q m (child a t cs) r lower s =
         let low = lower.0.2 in
@@ -75,7 +75,7 @@ module _ (A : Automaton) (n : ℕ) (inside : Inside A n) (rooted : HaveRoots A n
       let root = rooted q low (r.0.0, r.0.1) in
       sample_with q root.0 root.1 root.2 root.3 (gather A q root.1 (all (ranked_sample k) root.1 root.3.passes.1))
     where
-      all : ((s l : ℕ) → s < n → Rank A s l → l < k → (t : Tree) × Sample A s t) → (w : List ℕ) → AllByRecursion (λ a. (s : ℕ) × (A.next q a ≡ Some s) × Lower A s q) w → AllByRecursion (LeadsSampled A q) w
+      all : ((s l : ℕ) → s < n → Rank A s l → l < k → (t : Tree) × Sample A s t) → (w : List ℕ) → AllByRecursion (LeadsLower A q) w → AllByRecursion (LeadsSampled A q) w
       all tree [] h = tt
       all tree (a ∷ w) h =
           let lower = h.0.2 in
@@ -105,6 +105,6 @@ module _ (A : Automaton) (n : ℕ) (inside : Inside A n) (rooted : HaveRoots A n
   pub sample_children : (p : ℕ) (w : List ℕ) → p < n → SampleSequence A p w → SampledChildren A p w
   sample_children p w low s = sampled_children p w low (by w s.passes.1)
     where
-      by : (w : List ℕ) → AllByRecursion (λ a. (s : ℕ) × (A.next p a ≡ Some s) × Lower A s p) w → AllByRecursion (LeadsLive A p) w
+      by : (w : List ℕ) → AllByRecursion (LeadsLower A p) w → AllByRecursion (LeadsLive A p) w
       by [] h = tt
       by (a ∷ w) h = let tree = h.0.2.2.0 in ((h.0.0, h.0.1, (tree.0, tree.1)), by w h.1)

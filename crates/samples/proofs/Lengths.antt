@@ -1,5 +1,5 @@
 -- How many bytes trees and children have, and counting them up to a limit. Assumes nothing.
-use Rattle.std.proofs.Common.{◌≡◌, ℕ, ◌+◌, List, ◌++◌, length, min, refl, ap, ◌∙◌, arith}
+use Rattle.std.proofs.Common.{◌≡◌, ℕ, ◌+◌, List, ◌++◌, length, refl, ap, ◌∙◌, arith}
 use Rattle.std.proofs.lemmas.List.{length-append}
 use Rattle.codec.specs.Encoding.{tree_bytes, children_bytes}
 use Rattle.codec.specs.Numbers.{number_bytes}

@@ -14,13 +14,9 @@ use Rattle.schema.proofs.Bound.{passed}
 use Rattle.search.specs.Sequences.{First, Sought}
 use Rattle.search.specs.Watching.{anything}
 use Rattle.search.proofs.Orders.{first_alike}
-use Rattle.samples.specs.Samples.{Lower, LowerSequence, SampleSequence}
+use Rattle.samples.specs.Samples.{LeadsLower, LowerSequence, SampleSequence}
 use Rattle.samples.specs.Kept.{noted_at}
 use Rattle.samples.proofs.Growing.{Inside, one_rank}
-
--- a symbol leads to a state of lower rank
-abbrev pub LeadsLower : Automaton → ℕ → ℕ → Type 0
-LeadsLower A q a = (s : ℕ) × (A.next q a ≡ Some s) × Lower A s q
 
 -- the test whether a rank is there
 pub rank_equal : (o : Option ℕ) (k : ℕ) → Decides (option_eq eqb o (Some k)) (o ≡ Some k)

@@ -1,5 +1,5 @@
 -- The bytes of samples, counted up to TOO_LONG. Assumes nothing.
-use Rattle.std.proofs.Common.{◌≡◌, ℕ, ◌+◌, ◌<◌, ◌≤◌, min, ◌⊎◌, List, ◌∷◌, sum, map, length, take, set, get_or, Some, Option, sym, refl, ap, ◌∙◌, subst, inl, inr, ⊎_elim, arith, get_or-set_same, get_or-set_other, length-set}
+use Rattle.std.proofs.Common.{◌≡◌, ℕ, ◌+◌, ◌<◌, ◌≤◌, min, ◌⊎◌, List, ◌∷◌, sum, map, length, take, set, get_or, Some, sym, refl, ap, ◌∙◌, subst, inl, inr, ⊎_elim, arith, get_or-set_same, get_or-set_other, length-set}
 use Rattle.std.specs.List.{AllByRecursion}
 use Rattle.std.proofs.lemmas.Bool.{cases_eq, cases_lt}
 use Rattle.std.specs.Option.{MatchOption}
@@ -16,11 +16,11 @@ use Rattle.schema.specs.declared.live.Ranks.{Ranks}
 use Rattle.samples.specs.declared.samples.Samples.{Samples as Kept}
 use Rattle.samples.specs.declared.size.TheConstants.{TOO_LONG}
 use Rattle.search.proofs.Orders.{one_first}
-use Rattle.samples.specs.Samples.{LowerSequence, Sample, Samples}
+use Rattle.samples.specs.Samples.{LeadsLower, LowerSequence, Sample, Samples}
 use Rattle.samples.specs.Kept.{child_bytes, needed, noted_at, size_at, node_bytes, HasRoots, Root, RootOf, Sampled, SampledBelow, SizedBelow}
 use Rattle.samples.proofs.Growing.{HaveRoots, Inside, one_rank}
 use Rattle.samples.proofs.Lengths.{child_length, tree_length}
-use Rattle.samples.proofs.Ranking.{LeadsLower, noted_ranked, rank_noted}
+use Rattle.samples.proofs.Ranking.{noted_ranked, rank_noted}
 use Rattle.samples.proofs.Unique.{one_smallest}
 
 -- one summand more, counted up to TOO_LONG

@@ -1,4 +1,5 @@
--- The samples of a schema's live states as they are kept: what each begins with, and how many bytes it has. Assumes nothing.
+-- The samples of a schema's live states as they are kept: what each begins with, and how many bytes
+-- it has. Assumes nothing.
 use Rattle.std.specs.Prelude.{◌≡◌, ℕ, ◌+◌, ◌<◌, Bool, List, min, sum, map, length, Some, None, Option, slice_index, slice_index_or}
 use Rattle.codec.specs.Encoding.{tree_bytes}
 use Rattle.codec.specs.Numbers.{number_bytes}
@@ -43,14 +44,16 @@ module _ (A : Automaton) where
 
   -- at each state below n of a rank below k the bytes needed for its sample are noted
   abbrev pub SizedBelow : ℕ → ℕ → List ℕ → Type 0
-  SizedBelow n k sizes = (q m : ℕ) (t : Tree) → q < n → Rank A q m → m < k → Sample A q t → slice_index sizes q ≡ needed t
+  SizedBelow n k sizes =
+      (q m : ℕ) (t : Tree) → q < n → Rank A q m → m < k → Sample A q t → slice_index sizes q ≡ needed t
 
   -- of the live states below n: what each one's sample begins with, and the bytes needed for it
   pub record Sampled (n : ℕ) (s : Samples) : Type 0 where
     pub rooted : HasRoots n s.roots
     pub sized : (q : ℕ) (t : Tree) → q < n → Sample A q t → slice_index s.sizes q ≡ needed t
 
-  -- on the way there: with these ranks of the states, the roots are right, and so are the sizes of the states of a rank below k
+  -- on the way there: with these ranks of the states, the roots are right, and so are the sizes of
+  -- the states of a rank below k
   abbrev pub SampledBelow : ℕ → ℕ → Ranks → Samples → Type 0
   SampledBelow n k ranks s = Ranked A n ranks.live ranks.rank × HasRoots n s.roots × SizedBelow n k s.sizes
 
@@ -64,7 +67,8 @@ module _ (A : Automaton) where
 
   -- the bytes of a value and of a child count, and those of the children
   abbrev pub node_bytes : List ℕ → ℕ → Root → ℕ
-  node_bytes sizes q s = length (number_bytes s.value) + length (number_bytes (length s.word)) + bytes_below sizes q s.word
+  node_bytes sizes q s =
+      length (number_bytes s.value) + length (number_bytes (length s.word)) + bytes_below sizes q s.word
 
 module _ {D : Type 0} (holds : D → ℕ → Bool) (t : Tested D) where
   -- the samples are those of the schema's live states, where `holds` says which values a domain has

@@ -11,12 +11,14 @@ Within s = s.place ≤ length s.bytes.now
 abbrev pub room_left : Output → ℕ
 room_left s = length s.bytes.now - s.place
 
--- bytes are written at the place, which then lies behind them; no other byte changes, and the output is the one that was lent
+-- bytes are written at the place, which then lies behind them; no other byte changes, and the
+-- output is the one that was lent
 pub record Appended (bytes : List ℕ) (before after : Output) : Type 0 where
   pub written : Written before.bytes.now before.place bytes after.place after.bytes.now
   pub lent : after.bytes.ghost_name ≡ before.bytes.ghost_name
 
--- what writing bytes answers and leaves; none: they have no room_left there, and how many of them were written is not said
+-- what writing bytes answers and leaves; none: they have no room_left there, and how many of them
+-- were written is not said
 abbrev pub Appends : List ℕ → Output → Option (Unit {0}) → Output → Type 0
 Appends bytes before (Some u) after = Appended bytes before after
 Appends bytes before None after = length before.bytes.now < before.place + length bytes

@@ -1,4 +1,5 @@
-//! Samples: one small tree for each live state of a schema, what each begins with, its length in bytes, and its bytes.
+//! Samples: one small tree for each live state of a schema, what each begins with, its length in
+//! bytes, and its bytes.
 #![tactic(auto)]
 
 pub mod node;

@@ -1,4 +1,5 @@
-//! The nodes of trees that are written: what one begins with, and the key of one that writing is in.
+//! The nodes of trees that are written: what one begins with, and the key of one that writing is
+//! in.
 
 use search::word::Word;
 
@@ -9,7 +10,8 @@ pub struct Node<const N: usize> {
     pub word: Word<N>,
 }
 
-/// The key of a node: the place of its pair in a list of pairs, or the state that it is the sample of.
+/// The key of a node: the place of its pair in a list of pairs, or the state that it is the sample
+/// of.
 #[derive(Clone, Copy, Debug, PartialEq, Eq)]
 pub enum NodeKey {
     Pair(u16),

@@ -6,7 +6,8 @@ ghost use Rattle.samples.specs.Outputs.{Appends};
 use codec::number::write_number;
 
 /// A lent output, written from its front up to a place.
-// No model: whoever lends the bytes has to learn what stands in them afterwards, which a view would hide.
+// No model: whoever lends the bytes has to learn what stands in them afterwards, which a view would
+// hide.
 #[derive(Drop)]
 pub struct Output<'a> {
     pub bytes: &'a mut [u8],

@@ -30,7 +30,8 @@ use search::word::Word;
 /// The most symbols of a sample's sequence: it goes through no row twice.
 pub const SAMPLE_SYMBOLS: usize = STATE_ROWS as usize - 1;
 
-/// The samples of the live states of a schema, found once: what each begins with, and how many bytes it has.
+/// The samples of the live states of a schema, found once: what each begins with, and how many
+/// bytes it has.
 #[derive(Drop)]
 pub struct Samples {
     roots: [Option<Node<SAMPLE_SYMBOLS>>; STATES],
@@ -54,7 +55,8 @@ fn is_below(ranks: &Ranks, rank: u8, state: u8) -> bool
 /// The states of a rank below this one.
 fn states_below(ranks: &Ranks, rank: u8) -> u64
     ensures { (A : Automaton) (n s : ℕ) → Ranked A n ranks.now.live ranks.now.rank → s < 64 →
-        Decides (bit result s) ((bit ranks.now.live s ≡ true) × ((m : ℕ) × Rank A s m × (m < rank))) }
+        Decides (bit result s)
+        ((bit ranks.now.live s ≡ true) × ((m : ℕ) × Rank A s m × (m < rank))) }
 {
     gather(STATES as u8, |state| is_below(ranks, rank, state))
 }
@@ -68,7 +70,8 @@ fn first_over<D: Domain>(
 ) -> Option<Word<SAMPLE_SYMBOLS>>
     ensures { IsState tested.now state →
         MatchOption result
-        ((w : List ℕ) → Sought (meaning D.Domain.holds tested.now) state (bit symbols) anything w → ⊥)
+        ((w : List ℕ) →
+        Sought (meaning D.Domain.holds tested.now) state (bit symbols) anything w → ⊥)
         (Shortest (meaning D.Domain.holds tested.now) state (bit symbols) anything) }
 {
     let question = Question {
@@ -134,8 +137,9 @@ impl Samples {
     /// Notes the size of the sample of each state of a rank, where those of lower ranks are noted.
     fn note_sizes<D: Domain>(&mut self, tested: &Tested<D>, ranks: &Ranks, rank: u8)
         ensures roots { self.new.roots ≡ self.old.roots }
-        ensures sizes { SampledBelow (meaning D.Domain.holds tested.now) (states_of tested.now) rank ranks.now self.old →
-            SampledBelow (meaning D.Domain.holds tested.now) (states_of tested.now) (rank + 1) ranks.now self.new }
+        ensures sizes { let A = meaning D.Domain.holds tested.now in
+            SampledBelow A (states_of tested.now) rank ranks.now self.old →
+            SampledBelow A (states_of tested.now) (rank + 1) ranks.now self.new }
     {
         for state in 0..STATES {
             if rank_at(ranks, state as u8) == Some(rank) {
@@ -178,7 +182,8 @@ impl Samples {
         add(number_length(u32::from(symbol)) as u32, below)
     }
 
-    /// How many bytes the children of a state under the symbols of a sequence have, where each is a sample, up to TOO_LONG.
+    /// How many bytes the children of a state under the symbols of a sequence have, where each is a
+    /// sample, up to TOO_LONG.
     pub fn children_size<D: Domain>(&self, tested: &Tested<D>, state: u8, word: &[u8]) -> u32
         ensures noted { let A = meaning D.Domain.holds tested.now in
             result ≡ min (bytes_below A self.now.sizes state word.now) TOO_LONG }
@@ -194,7 +199,8 @@ impl Samples {
         size
     }
 
-    /// How many bytes the sample of a state has by what it begins with, up to TOO_LONG, or 0 where that is not known.
+    /// How many bytes the sample of a state has by what it begins with, up to TOO_LONG, or 0 where
+    /// that is not known.
     fn sample_size<D: Domain>(&self, tested: &Tested<D>, state: u8) -> u32
         ensures { let A = meaning D.Domain.holds tested.now in
             MatchOption (noted_at self.now.roots state) (result ≡ 0)

@@ -68,7 +68,8 @@ fn next_child<D: Domain>(
     samples: &Samples,
     level: Level<NodeKey>,
 ) -> Option<Child>
-    ensures { HasSamples D.Domain.holds tested.now samples.now → (q a p : ℕ) (t : Tree) (cs : Children) →
+    ensures { HasSamples D.Domain.holds tested.now samples.now →
+        (q a p : ℕ) (t : Tree) (cs : Children) →
         level ≡ level_of q (child a t cs) →
         IsState tested.now q →
         LastOf (meaning D.Domain.holds tested.now) q (child a t cs) →
@@ -139,8 +140,8 @@ fn write_sample<D: Domain>(
     Some(())
 }
 
-/// Writes the children of a state under the symbols of a sequence, each the sample of the state that its symbol leads to. One level is wanted
-/// for each level of them.
+/// Writes the children of a state under the symbols of a sequence, each the sample of the state
+/// that its symbol leads to. One level is wanted for each level of them.
 pub fn write_children<D: Domain>(
     tested: &Tested<D>,
     samples: &Samples,

@@ -56,7 +56,7 @@ returns g c = λ counts long.
     let b = c.in-Some.broken in
     let es = entries_of b.pairs.now in
     let d = subst (λ (o : Option ℕ). TracesBack A B es b.kind b.index o c.trace.new.levels.entries) c.in-Some-trace.is (traced g at counts long) in
-    let found : FoundDocument A B (view a) = record { way = d.path; tree = d.tree; document = found_in A B a b (of g at counts long) d.path d.tree d.document } in
+    let found : FoundDocument A B (view a) = record { path = d.path; tree = d.tree; document = found_in A B a b (of g at counts long) d.path d.tree d.document } in
     let levels = ap length d.marked ∙ length-map d.steps (λ (s : PathStep A B es). level_at s.place) in
     let free : STATES ≤ length c.trace.new.levels.free = omega (arith, long, c.trace.ensures.slots, ap length c.new-levels.ensures.empty, ap length c.new-levels.ensures.over, levels, d.few, slice_get_within es b.index d.last d.listed, many_of b.pairs.now, (kept_of b.pairs.now).short) in
     answered A B a found c.args.bytes.now c.write_traced.result c.write_traced.new.bytes (c.write_traced.ensures (ready g at counts long) free d)

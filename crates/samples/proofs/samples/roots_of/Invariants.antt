@@ -1,5 +1,5 @@
 -- The live states below the one that comes next have their roots.
-use Rattle.std.proofs.Common.{◌≡◌, ℕ, ◌<◌, ◌≤◌, true, Some, length}
+use Rattle.std.proofs.Common.{◌≡◌, ℕ, ◌<◌, true, Some, length}
 use Rattle.bits.specs.Bits.{bit}
 use Rattle.schema.specs.Meaning.{meaning}
 use Rattle.samples.specs.Kept.{noted_at, RanksOf, Root, RootOf}

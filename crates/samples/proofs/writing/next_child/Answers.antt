@@ -1,5 +1,5 @@
 -- The root's sequence is the sample's, and its symbol with so many left that of the next child. Assumes nothing.
-use Rattle.std.proofs.Common.{◌≡◌, ℕ, true, ◌<◌, Some, sym, ap, ◌∙◌, subst, arith}
+use Rattle.std.proofs.Common.{◌≡◌, ℕ, ◌<◌, Some, sym, ap, ◌∙◌, subst, arith}
 use Rattle.std.proofs.lemmas.Option.{none-some, same_Some}
 use Rattle.codec.specs.declared.item.Level.{Level}
 use Rattle.codec.specs.Trees.{Tree, Children, child, word}

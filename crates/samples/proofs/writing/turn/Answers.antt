@@ -6,7 +6,6 @@ use Rattle.codec.specs.Numbers.{number_bytes}
 use Rattle.codec.specs.Piles.{topmost}
 use Rattle.codec.specs.Trees.{node, Children, child, many, heights}
 use Rattle.codec.proofs.Slots.{topmost_of, over_top}
-use Rattle.schema.specs.Tables.{tables, sets}
 use Rattle.samples.specs.declared.node.NodeKey.{NodeKey}
 use Rattle.samples.specs.declared.writing.Child.{Child}
 use Rattle.schema.specs.Meaning.{meaning, states_of}

@@ -4,7 +4,7 @@ use Rattle.std.proofs.lemmas.Option.{none-some, same_Some}
 use Rattle.codec.specs.Encoding.{children_bytes}
 use Rattle.codec.specs.Numbers.{number_bytes}
 use Rattle.codec.specs.Trees.{Children, word, heights}
-use Rattle.schema.specs.Tables.{tables, sets}
+use Rattle.schema.specs.Tables.{sets}
 use Rattle.schema.specs.Meaning.{meaning, states_of}
 use Rattle.samples.specs.Samples.{Sample, Samples}
 use Rattle.samples.specs.Kept.{HasSamples}

@@ -3,7 +3,6 @@
 use Rattle.std.proofs.Common.{ℕ, ◌+◌, ◌<◌, List, length, sym, refl, ap, ◌∙◌, subst, arith}
 use Rattle.codec.specs.Encoding.{tree_bytes, children_bytes}
 use Rattle.codec.specs.Trees.{Tree, height}
-use Rattle.schema.specs.Tables.{tables, sets}
 use Rattle.schema.specs.Meaning.{meaning, states_of}
 use Rattle.samples.specs.Samples.{Sample}
 use Rattle.samples.specs.Writing.{head_bytes}

@@ -5,7 +5,7 @@ use Rattle.schema.specs.Meaning.{meaning, states_of}
 use Rattle.samples.proofs.Sizing.{kept_rooted}
 use Rattle.samples.proofs.Tested.{next_inside}
 use Rattle.compare.specs.Listing.{entries_of}
-use Rattle.document.proofs.Passages.{states_listed}
+use Rattle.document.proofs.PathNodes.{states_listed}
 use Rattle.document.proofs.Splitting.{end_children}
 use Rattle.document.proofs.Tracing.{ends, ends_nowhere}
 use Rattle.document.proofs.counterexample.Counterexample.end.Goals as goal

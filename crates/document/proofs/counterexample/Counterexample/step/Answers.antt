@@ -9,8 +9,8 @@ use Rattle.samples.proofs.Tested.{next_inside}
 use Rattle.compare.specs.Listing.{entries_of}
 use Rattle.compare.proofs.Views.{kept_of, many_of}
 use Rattle.document.specs.Documents.{OnPath}
-use Rattle.document.proofs.Passages.{states_listed}
-use Rattle.document.proofs.Splitting.{fork_of}
+use Rattle.document.proofs.PathNodes.{states_listed}
+use Rattle.document.proofs.Splitting.{context_of}
 use Rattle.document.proofs.Stepping.{led_from, no_step}
 use Rattle.document.proofs.counterexample.Counterexample.step.Goals as goal
 
@@ -23,7 +23,7 @@ returns-in_err-node-clause-back g c = λ ready.
     let low = (states_listed g.D.Domain.holds self ready c.from-at.result from (sym there)).0 in
     rw c.from_residual-in_err-node.ensures
     (no_step (entries_of self.pairs.now) c.args.place c.from-at.result pair from c.in_ok-pair.ensures c.from-at.ensures there (meaning g.D.Domain.holds self.compared.first.now) (meaning g.D.Domain.holds self.compared.second.now)
-    (λ f. c.in_err-node.ensures ready low f.value (word f.before ++ pair.symbol ∷ word f.after) f.on_way))
+    (λ f. c.in_err-node.ensures ready low f.value (word f.before ++ pair.symbol ∷ word f.after) f.on_path))
 
 pub returns-in_err-before-clause-back : goal.returns-in_err-before-clause-back
 returns-in_err-before-clause-back g c = λ ready.
@@ -45,20 +45,20 @@ returns-clause-back g c = λ ready.
     let low = (states_listed g.D.Domain.holds self ready c.from-at.result from (sym there)).0 in
     let parts = c.in_ok-before.ensures in
     let whole : node.word ≡ u ++ pair.symbol ∷ x = sym c.as_slice.ensures.all ∙ parts.0 in
-    let on_way : OnPath A B from.first pair.symbol node.value (u ++ pair.symbol ∷ x) = subst (OnPath A B from.first pair.symbol node.value) whole (c.in_ok-node.ensures ready low) in
-    let forked = fork_of A B from.first from.second pair node.value u x on_way (c.leads.ensures.0 c.if-not-leads.false) parts.1 (states_of t) (next_inside g.D.Domain.holds t) (kept_rooted A (states_of t) self.samples ready.samples) low in
-    let f = forked.fork in
-    let all = ap (λ (l : List ℕ). l ++ pair.symbol ∷ word f.after) forked.word_before ∙ ap (λ (l : List ℕ). u ++ pair.symbol ∷ l) forked.word_after ∙ sym whole in (
+    let on_path : OnPath A B from.first pair.symbol node.value (u ++ pair.symbol ∷ x) = subst (OnPath A B from.first pair.symbol node.value) whole (c.in_ok-node.ensures ready low) in
+    let placed = context_of A B from.first from.second pair node.value u x on_path (c.leads.ensures.0 c.if-not-leads.false) parts.1 (states_of t) (next_inside g.D.Domain.holds t) (kept_rooted A (states_of t) self.samples ready.samples) low in
+    let f = placed.context in
+    let all = ap (λ (l : List ℕ). l ++ pair.symbol ∷ word f.after) placed.word_before ∙ ap (λ (l : List ℕ). u ++ pair.symbol ∷ l) placed.word_after ∙ sym whole in (
       record {
         place = c.args.place;
         pair = pair;
         from = from;
         led = led_from (entries_of self.pairs.now) c.args.place c.from-at.result pair from c.in_ok-pair.ensures c.from-at.ensures there;
-        fork = f;
+        context = f;
       },
       refl,
       c.from-at.ensures,
-      c.fork_size-size.ensures ready low from.second pair f refl forked.value all forked.word_before forked.word_after,
+      c.context_size-size.ensures ready low from.second pair f refl placed.value all placed.word_before placed.word_after,
     )
 
 pub returns-clause-low : goal.returns-clause-low

@@ -11,7 +11,7 @@ use Rattle.compare.specs.Listing.{entries_of}
 use Rattle.compare.proofs.Views.{kept_of, many_of}
 use Rattle.samples.specs.declared.node.NodeKey.{NodeKey}
 use Rattle.document.specs.Steps.{PathStep, level_at}
-use Rattle.document.proofs.Tracing.{pushed_on, pushed_slots, Point, begins, goes_back, no_end, no_way_back, ends_at_first}
+use Rattle.document.proofs.Tracing.{pushed_on, pushed_slots, Point, begins, goes_back, no_end, no_path_back, ends_at_first}
 use Rattle.document.proofs.counterexample.Counterexample.trace.Goals as goal
 use Rattle.document.proofs.counterexample.Counterexample.trace.Goals.{then-start-eq0, else-start-eq0}
 
@@ -34,7 +34,7 @@ returns-in_err-step-clause-traced g c = λ ready empty free.
     let t = c.args.self.now in
     let l = c.loop-at in
     rw c.from_residual-in_err-step.ensures
-    (no_way_back (meaning g.D.Domain.holds t.compared.first.now) (meaning g.D.Domain.holds t.compared.second.now) t.kind (entries_of t.pairs.now) c.args.place l.at l.size l.levels.entries (l.invariant.point ready empty free) (omega arith) (c.in_err-step.ensures.back ready))
+    (no_path_back (meaning g.D.Domain.holds t.compared.first.now) (meaning g.D.Domain.holds t.compared.second.now) t.kind (entries_of t.pairs.now) c.args.place l.at l.size l.levels.entries (l.invariant.point ready empty free) (omega arith) (c.in_err-step.ensures.back ready))
 
 pub overflow_cast-at : goal.overflow_cast-at
 overflow_cast-at g c = omega (arith, c.in_ok-step.ensures.low.1)

@@ -1,5 +1,5 @@
 -- The node that is found has the tree's value and the symbols of its children. Assumes nothing.
-use Rattle.std.proofs.Common.{◌≡◌, ℕ, ◌+◌, ◌<◌, List, [], ◌++◌, length, Some, sym, ap, ◌∙◌, subst, arith}
+use Rattle.std.proofs.Common.{◌≡◌, ℕ, ◌+◌, ◌<◌, List, [], ◌++◌, length, Some, sym, ap, ◌∙◌, subst}
 use Rattle.std.proofs.lemmas.Option.{same_Some}
 use Rattle.std.specs.List.{slice_get}
 use Rattle.codec.specs.Encoding.{tree_bytes, children_bytes}
@@ -13,7 +13,7 @@ use Rattle.document.specs.Documents.{AtEnd, Built}
 use Rattle.document.specs.Nodes.{Ready}
 use Rattle.samples.specs.Samples.{Samples}
 use Rattle.samples.specs.Writing.{head_bytes, Leaves}
-use Rattle.document.proofs.Passages.{states_listed}
+use Rattle.document.proofs.PathNodes.{states_listed}
 use Rattle.document.proofs.Unique.{one_end}
 use Rattle.samples.proofs.Outputs.{added_within, crowded_front}
 use Rattle.samples.proofs.Lengths.{many_symbols}

@@ -1,6 +1,6 @@
 -- Children that are samples have levels enough. Assumes nothing.
 use Rattle.std.proofs.Common.{arith}
-use Rattle.document.proofs.Passages.{children_fit}
+use Rattle.document.proofs.PathNodes.{children_fit}
 use Rattle.document.proofs.counterexample.Counterexample.write_samples.Goals as goal
 
 pub returns-clause-written : goal.returns-clause-written

@@ -3,13 +3,13 @@ use Rattle.std.proofs.Common.{ℕ, ◌+◌, length, min, sym, ap, ◌∙◌}
 use Rattle.codec.specs.Numbers.{number_bytes}
 use Rattle.schema.specs.Meaning.{meaning}
 use Rattle.samples.specs.declared.size.TheConstants.{TOO_LONG}
-use Rattle.document.proofs.Stepping.{fork_sum}
-use Rattle.document.proofs.counterexample.Counterexample.fork_size.Goals as goal
+use Rattle.document.proofs.Stepping.{context_sum}
+use Rattle.document.proofs.counterexample.Counterexample.context_size.Goals as goal
 
 pub returns : goal.returns
 returns g c = λ ready low q e f symbol value all before after.
     let t = c.args.self.now in
-    fork_sum (meaning g.D.Domain.holds t.compared.first.now) (meaning g.D.Domain.holds t.compared.second.now) f c.number_length.result c.number_length-2.result c.number_length-3.result c.children_size.result c.children_size-2.result c.add.result
+    context_sum (meaning g.D.Domain.holds t.compared.first.now) (meaning g.D.Domain.holds t.compared.second.now) f c.number_length.result c.number_length-2.result c.number_length-3.result c.children_size.result c.children_size-2.result c.add.result
     (c.number_length.ensures.value ∙ ap (λ (n : ℕ). length (number_bytes n)) (sym value))
     (c.number_length-2.ensures.value ∙ ap (λ (n : ℕ). length (number_bytes n)) (c.len.ensures.count ∙ sym (ap length all)))
     (c.number_length-3.ensures.value ∙ ap (λ (n : ℕ). length (number_bytes n)) (c.from.ensures ∙ sym symbol))

@@ -1,4 +1,4 @@
--- What is found for the node is what its fork says. Assumes nothing.
+-- What is found for the node is what its context says. Assumes nothing.
 use Rattle.std.proofs.Common.{◌≡◌, ℕ, ◌∷◌, ◌++◌, Some, sym, ap, ◌∙◌, subst}
 use Rattle.std.proofs.lemmas.Option.{same_Some}
 use Rattle.std.specs.List.{slice_get}
@@ -12,11 +12,11 @@ use Rattle.compare.specs.Listing.{entries_of}
 use Rattle.document.specs.Documents.{OnPath}
 use Rattle.document.specs.Nodes.{Ready}
 use Rattle.document.specs.Steps.{LedFrom, level_at}
-use Rattle.document.proofs.Passages.{states_listed}
-use Rattle.document.proofs.Places.{fork_says}
-use Rattle.document.proofs.counterexample.Counterexample.passage.Given as given
-use Rattle.document.proofs.counterexample.Counterexample.passage.Goals as goal
-use Rattle.document.proofs.counterexample.Counterexample.passage.Goals.{After-node_on_path}
+use Rattle.document.proofs.PathNodes.{states_listed}
+use Rattle.document.proofs.Places.{context_says}
+use Rattle.document.proofs.counterexample.Counterexample.path_node.Given as given
+use Rattle.document.proofs.counterexample.Counterexample.path_node.Goals as goal
+use Rattle.document.proofs.counterexample.Counterexample.path_node.Goals.{After-node_on_path}
 
 -- the pair is the level's, and the one that it is led from is its parent, a state of the first schema with another
 record Met (g : given.Over) (c : After-node_on_path g) (e x : Listed) : Type 0 where
@@ -42,10 +42,10 @@ pub returns-in_err-node : goal.returns-in_err-node
 returns-in_err-node g c = λ ready s is.
     let A = meaning g.D.Domain.holds c.args.self.now.compared.first.now in
     let B = meaning g.D.Domain.holds c.args.self.now.compared.second.now in
-    let f = s.fork in
+    let f = s.context in
     let m = met g (goal.at.returns-in_err-node g c).After-node_on_path s.place s.pair s.from ready is s.led in
     let w = word f.before ++ s.pair.symbol ∷ word f.after in
-    absurd (c.in_err-node.ensures ready m.low f.value w (subst (λ (y : Listed). OnPath A B y.first c.in_ok-pair.pair.symbol f.value w) (sym m.from) (subst (λ (y : Listed). OnPath A B s.from.first y.symbol f.value w) (sym m.pair) f.on_way)))
+    absurd (c.in_err-node.ensures ready m.low f.value w (subst (λ (y : Listed). OnPath A B y.first c.in_ok-pair.pair.symbol f.value w) (sym m.from) (subst (λ (y : Listed). OnPath A B s.from.first y.symbol f.value w) (sym m.pair) f.on_path)))
 
 pub returns : goal.returns
 returns g c = λ ready s is.
@@ -54,5 +54,5 @@ returns g c = λ ready s is.
     let m = met g (goal.at.returns g c).After-node_on_path s.place s.pair s.from ready is s.led in
     let node = c.in_ok-node.node in
     let found = subst (λ (y : Listed). OnPath A B s.from.first y.symbol node.value node.word) m.pair (subst (λ (y : Listed). OnPath A B y.first c.in_ok-pair.pair.symbol node.value node.word) m.from (c.in_ok-node.ensures ready m.low)) in
-    let says = fork_says A B s.fork node.value node.word found in
+    let says = context_says A B s.context node.value node.word found in
     λ j. Some (record { state = (m.from j).first; symbol = (m.pair j).symbol; node = record { value = sym says.0 j; word = sym says.1 j } })

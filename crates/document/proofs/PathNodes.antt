@@ -1,4 +1,4 @@
--- What is written of a node on the way: its parts one behind the other are the bytes of its fork. Assumes nothing.
+-- What is written of a node on the path: its parts one behind the other are the bytes of its context. Assumes nothing.
 use Rattle.std.proofs.Common.{◌≡◌, ℕ, ◌+◌, ◌<◌, ◌≤◌, Bool, List, ◌∷◌, ◌++◌, length, Some, None, Option, sym, ap, ◌∙◌, subst, append_assoc, arith}
 use Rattle.std.specs.List.{slice_get}
 use Rattle.codec.specs.declared.item.Level.{Level}
@@ -17,16 +17,16 @@ use Rattle.compare.proofs.Views.{entries_fit}
 use Rattle.samples.specs.declared.node.NodeKey.{NodeKey}
 use Rattle.samples.specs.declared.output.Output.{Output}
 use Rattle.document.specs.declared.counterexample.Counterexample.{Counterexample}
-use Rattle.document.specs.declared.write.Passage.{Passage}
-use Rattle.document.specs.Forks.{Context, bytes_before}
+use Rattle.document.specs.declared.write.PathNode.{PathNode}
+use Rattle.document.specs.Contexts.{Context, bytes_before}
 use Rattle.document.specs.Nodes.{Ready}
 use Rattle.document.specs.Steps.{PathStep}
-use Rattle.document.specs.Passing.{path_node_of}
+use Rattle.document.specs.PathNodes.{path_node_of}
 use Rattle.samples.specs.Samples.{Samples}
 use Rattle.samples.specs.Writing.{Leaves}
 use Rattle.samples.specs.Outputs.{Appended, Appends}
 use Rattle.samples.proofs.Heights.{samples_height}
-use Rattle.document.proofs.Places.{fork_sides}
+use Rattle.document.proofs.Places.{context_sides}
 use Rattle.samples.proofs.Outputs.{added_more, adds_more, crowded_more, crowded_front}
 use Rattle.samples.proofs.Tested.{few_states, next_inside}
 use Rattle.samples.proofs.Sizing.{kept_rooted}
@@ -54,23 +54,23 @@ module _ {A B : Automaton} {es : List Listed} (p : PathStep A B es) where
   e = p.pair
 
   abbrev f : Context A B p.from.first p.from.second e
-  f = p.fork
+  f = p.context
 
   -- the symbols on both sides of the first such symbol are those of the children before and after
-  pub sides : (s : Passage) → s ≡ path_node_of p → (u x : List ℕ) → s.node.word ≡ u ++ s.symbol ∷ x → (Holds s.symbol u → ⊥) → (word f.before ≡ u) × (word f.after ≡ x)
+  pub sides : (s : PathNode) → s ≡ path_node_of p → (u x : List ℕ) → s.node.word ≡ u ++ s.symbol ∷ x → (Holds s.symbol u → ⊥) → (word f.before ≡ u) × (word f.after ≡ x)
   sides s is u x parts lacks =
-      let symbol : s.symbol ≡ e.symbol = ap (λ (r : Passage). r.symbol) is in
-      let whole : s.node.word ≡ word f.before ++ e.symbol ∷ word f.after = ap (λ (r : Passage). r.node.word) is in
-      fork_sides A B f f.value (word f.before ++ e.symbol ∷ word f.after) f.on_way u x (sym whole ∙ parts ∙ ap (λ (a : ℕ). u ++ a ∷ x) symbol) (λ h. lacks (subst (λ (a : ℕ). Holds a u) (sym symbol) h))
+      let symbol : s.symbol ≡ e.symbol = ap (λ (r : PathNode). r.symbol) is in
+      let whole : s.node.word ≡ word f.before ++ e.symbol ∷ word f.after = ap (λ (r : PathNode). r.node.word) is in
+      context_sides A B f f.value (word f.before ++ e.symbol ∷ word f.after) f.on_path u x (sym whole ∙ parts ∙ ap (λ (a : ℕ). u ++ a ∷ x) symbol) (λ h. lacks (subst (λ (a : ℕ). Holds a u) (sym symbol) h))
 
-  module _ (s : Passage) (is : s ≡ path_node_of p) (count : ℕ) (counted : count ≡ length s.node.word) where
+  module _ (s : PathNode) (is : s ≡ path_node_of p) (count : ℕ) (counted : count ≡ length s.node.word) where
     abbrev pub value_count : List ℕ
     value_count = number_bytes s.node.value ++ number_bytes count
 
     -- the parts of the bytes before the tree of the child that goes on
     parts : (value_count ++ children_bytes f.before) ++ number_bytes s.symbol ≡ bytes_before A B f
     parts =
-        let long : count ≡ length (word f.before ++ e.symbol ∷ word f.after) = counted ∙ ap (λ (r : Passage). length r.node.word) is in
+        let long : count ≡ length (word f.before ++ e.symbol ∷ word f.after) = counted ∙ ap (λ (r : PathNode). length r.node.word) is in
         let same : (value_count ++ children_bytes f.before) ++ number_bytes s.symbol ≡ ((number_bytes f.value ++ number_bytes (length (word f.before ++ e.symbol ∷ word f.after))) ++ children_bytes f.before) ++ number_bytes e.symbol = λ i. ((number_bytes (is i).node.value ++ number_bytes (long i)) ++ children_bytes f.before) ++ number_bytes (is i).symbol in
         same ∙ regroup (number_bytes f.value) (number_bytes (length (word f.before ++ e.symbol ∷ word f.after))) (children_bytes f.before) (number_bytes e.symbol)
       where
@@ -79,8 +79,8 @@ module _ {A B : Automaton} {es : List Listed} (p : PathStep A B es) where
 
     module _ (before first : Output) (begun : Appended value_count before first) where
       -- they are written one behind the other
-      pub all_before : (second after : Output) (r : Option (Unit {0})) → Appended (children_bytes f.before) first second → Appends (number_bytes s.symbol) second r after → Appends (bytes_before A B f) before r after
-      all_before second after r children symbol =
+      pub appends_before : (second after : Output) (r : Option (Unit {0})) → Appended (children_bytes f.before) first second → Appends (number_bytes s.symbol) second r after → Appends (bytes_before A B f) before r after
+      appends_before second after r children symbol =
           subst (λ (l : List ℕ). Appends l before r after) parts
           (adds_more (value_count ++ children_bytes f.before) (number_bytes s.symbol) before second (added_more value_count (children_bytes f.before) before first begun second children) r after symbol)
 
