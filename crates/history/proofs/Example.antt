@@ -111,7 +111,7 @@ u_v_step = one_turn (over_zero U) (over_zero V) (view (running 3)) (view ready_i
 
 -- the document of V and U
 abbrev v_u_found : FoundDocument (over_zero V) (over_zero U) (view concluded_apart)
-v_u_found = record { way = []; tree = v_u_document.tree; document = (Content, refl, v_u_document.document) }
+v_u_found = record { path = []; tree = v_u_document.tree; document = (Content, refl, v_u_document.document) }
 
 module _ (a : Area) (made : view a ≡ free 7 0) where
   -- the area that is free again, with the list that it had as it was made

@@ -122,8 +122,8 @@ module _ (g : Handed) (b : BrokenInList g) where
       let A = first_automaton g in
       let B = second_automaton g in
       let d = answer.1.0 in
-      let its = moved h d.document.0 (view a) d.way d.tree same d.document.1 fixed d.document.2 in
-      let here = one_path pair_links b.pairs b.index d.way b.path its.leads b.leads in
+      let its = moved h d.document.0 (view a) d.path d.tree same d.document.1 fixed d.document.2 in
+      let here = one_path pair_links b.pairs b.index d.path b.path its.leads b.leads in
       let along : DocumentOf A B b.kind b.pairs b.index b.path d.tree = subst (λ (v : List Listed). DocumentOf A B b.kind b.pairs b.index v d.tree) here its in
       let told = built_tells A B b.kind 0 0 b.path d.tree along.built in
       record { tree = d.tree; document = along; first = told.0; second = told.1; answer = answer.1.1.0; bytes = answer.1.1.3 })
