@@ -1,10 +1,10 @@
 //! What a case comes to, and how it is printed.
 use crate::reply::{Reply, left};
 use api::Refusal;
-use notation::bytes::Listed;
-use notation::outputs::{Counts, Outputs};
-use notation::states::States;
-use notation::truths::Truth;
+use notation::answers::Truth;
+use notation::lists::Bytes;
+use notation::memory::{Counts, Outputs};
+use notation::sets::States;
 use std::fmt;
 
 /// The answer to a case.
@@ -32,9 +32,9 @@ pub enum Answer {
 
 /// Prints the three outputs, each whole.
 fn print_outputs<W: fmt::Write>(outputs: &Outputs, f: &mut fmt::Formatter<W>) -> fmt::Result {
-    write!(f, "{}; ", Listed(outputs.transitions.as_slice()))?;
-    write!(f, "{}; ", Listed(outputs.states.as_slice()))?;
-    write!(f, "{}", Listed(outputs.rows.as_slice()))
+    write!(f, "{}; ", Bytes(outputs.transitions.as_slice()))?;
+    write!(f, "{}; ", Bytes(outputs.states.as_slice()))?;
+    write!(f, "{}", Bytes(outputs.rows.as_slice()))
 }
 
 impl fmt::Display for Answer {

@@ -1,19 +1,19 @@
-//! Cases on comparing: `open AREA NUMBER`, which names an area for the cases after it, and the calls on it. A claim stays in its place, by
-//! number, for the cases after the one that gave it: `take AREA PLACE FIRST SECOND`, `oust AREA PLACE FIRST SECOND`,
-//! `step AREA NUMBER SERIAL FIRST SECOND STEPS PAIRS`, `conclude AREA PLACE`, `trail AREA PLACE LENGTH`, `giveup AREA PLACE`, and the case on
-//! documents.
+//! Cases on comparing: `open AREA NUMBER`, which names an area for the cases after it, and calls
+//! on it. A claim stays in its place, by number, for the cases after the one that gave it:
+//! `take AREA PLACE FIRST SECOND`, `oust AREA PLACE FIRST SECOND`,
+//! `step AREA NUMBER SERIAL FIRST SECOND STEPS PAIRS`, `conclude AREA PLACE`,
+//! `trail AREA PLACE LENGTH`, `giveup AREA PLACE`, and the case on documents.
 use crate::claims::spend;
 use crate::documents::Document;
 use crate::reply::Reply;
-use crate::trees::{AskedOfTwo, Shelf};
+use crate::trees::{AskedOfTwo, Schemas};
 use crate::trims::{FILLING, is_as_found};
 use api::{
     ApartClaim, Area, Claim, Concluded, Domain, Lease, Numbers, Refusal, RowPair, Schema, Verdict,
     conclude, give_up, open, oust, step, take, trail,
 };
-use notation::filled::filled;
-use notation::findings::Finding;
-use notation::row_pairs::row_pairs;
+use notation::answers::Finding;
+use notation::memory::{SEARCH_PAIR, filled};
 use notation::trouble::Trouble;
 use notation::words::{Words, digits};
 use std::alloc::Global;
@@ -86,8 +86,9 @@ impl AskedOfTwo for Step {
     }
 }
 
-/// The areas that the cases so far named, each the last of its name, and the claims that they were given, by place.
-pub struct Desk {
+/// The areas that the cases so far named, each the last of its name, and the claims that they were
+/// given, by place.
+pub struct Areas {
     areas: BTreeMap<String, Area>,
     places: [Held; PLACES],
 }
@@ -174,10 +175,10 @@ fn given_up<S>(area: &mut Area, claim: Lease<S>) -> (Reply, Option<Lease<S>>) {
     }
 }
 
-impl Desk {
+impl Areas {
     /// No areas, and no claim in any place.
-    pub fn new(heap: Global) -> Desk {
-        Desk {
+    pub fn new(heap: Global) -> Areas {
+        Areas {
             areas: BTreeMap::new(heap),
             places: [Held::Nothing, Held::Nothing, Held::Nothing, Held::Nothing],
         }
@@ -185,7 +186,7 @@ impl Desk {
 
     /// Spends the claims that are left.
     pub fn clear(self) {
-        let Desk { areas: _, places } = self;
+        let Areas { areas: _, places } = self;
         let [first, second, third, fourth] = places;
         first.spend();
         second.spend();
@@ -205,13 +206,13 @@ impl Desk {
     /// Takes or ousts an area, and puts the claim in its place.
     pub fn begin<'a>(
         &mut self,
-        shelf: &Shelf,
+        schemas: &Schemas,
         begin: Begin,
         words: &mut Words<'a>,
     ) -> Result<Reply, Trouble<'a>> {
         let area = area_of(&mut self.areas, words)?;
         let (_, place) = place_of(&mut self.places, words)?;
-        let two = shelf.two(words)?;
+        let two = schemas.two(words)?;
         words.end()?;
         let claim = two.put(begin, area)?;
         let numbers = claim.numbers();
@@ -220,12 +221,16 @@ impl Desk {
     }
 
     /// A step of the claim that the words tell.
-    pub fn step<'a>(&mut self, shelf: &Shelf, words: &mut Words<'a>) -> Result<Reply, Trouble<'a>> {
+    pub fn step<'a>(
+        &mut self,
+        schemas: &Schemas,
+        words: &mut Words<'a>,
+    ) -> Result<Reply, Trouble<'a>> {
         let area = area_of(&mut self.areas, words)?;
         let claim = claim_of(words)?;
-        let two = shelf.two(words)?;
+        let two = schemas.two(words)?;
         let steps = words.number()?;
-        let scratch = row_pairs(words.heap, words.number()? as usize)?;
+        let scratch = filled(words.heap, words.number()? as usize, SEARCH_PAIR)?;
         words.end()?;
         let step = Step {
             claim,
@@ -276,12 +281,12 @@ impl Desk {
     /// The document of the claim that the words tell.
     pub fn document<'a>(
         &mut self,
-        shelf: &Shelf,
+        schemas: &Schemas,
         words: &mut Words<'a>,
     ) -> Result<Reply, Trouble<'a>> {
         let area = area_of(&mut self.areas, words)?;
         let claim = claim_of(words)?;
-        let two = shelf.two(words)?;
+        let two = schemas.two(words)?;
         let document = Document::read(words, claim)?;
         words.end()?;
         Ok(two.put(document, area)?)

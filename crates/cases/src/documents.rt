@@ -1,19 +1,18 @@
-//! Cases on documents: `document AREA NUMBER SERIAL FIRST SECOND PAIRS LEVELS LENGTH`, with an output that is filled beforehand, so that each
-//! byte that was written is seen. Whatever is written is checked against both schemas.
+//! Cases on documents: `document AREA NUMBER SERIAL FIRST SECOND PAIRS LEVELS LENGTH`, with an
+//! output that is filled beforehand, so that each byte that was written is seen. Whatever is
+//! written is checked against both schemas.
 use crate::reply::Reply;
 use crate::trees::AskedOfTwo;
 use crate::trims::{FILLING, is_as_found};
 use api::{
     Area, Cursor, Domain, LEVELS, Level, Numbers, Refusal, RowPair, Schema, Spot, check, document,
 };
-use notation::filled::filled;
-use notation::levels::levels;
-use notation::row_pairs::row_pairs;
-use notation::spots::spots;
+use notation::memory::{CHECK_LEVEL, DOCUMENT_LEVEL, SEARCH_PAIR, filled};
 use notation::trouble::Trouble;
 use notation::words::Words;
 
-/// The document of the comparison whose apart claim has these numbers, what is lent for it, and levels to check it with.
+/// The document of the comparison whose apart claim has these numbers, what is lent for it, and
+/// levels to check it with.
 #[derive(Drop)]
 pub struct Document {
     claim: Numbers,
@@ -28,9 +27,9 @@ impl Document {
     pub fn read<'a>(words: &mut Words<'a>, claim: Numbers) -> Result<Document, Trouble<'a>> {
         Ok(Document {
             claim,
-            scratch: row_pairs(words.heap, words.number()? as usize)?,
-            spots: spots(words.heap, words.number()? as usize)?,
-            levels: levels(words.heap, LEVELS)?,
+            scratch: filled(words.heap, words.number()? as usize, SEARCH_PAIR)?,
+            spots: filled(words.heap, words.number()? as usize, DOCUMENT_LEVEL)?,
+            levels: filled(words.heap, LEVELS, CHECK_LEVEL)?,
             output: filled(words.heap, words.number()? as usize, FILLING)?,
         })
     }

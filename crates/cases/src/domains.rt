@@ -1,7 +1,8 @@
-//! Cases on domains: `make RANGES`, `has KIND DOMAIN VALUE`, `least KIND DOMAIN` and `gap KIND FIRST SECOND`.
+//! Cases on domains: `make RANGES`, `has KIND DOMAIN VALUE`, `least KIND DOMAIN` and `gap KIND
+//! FIRST SECOND`.
 use crate::answer::Answer;
 use api::{Coverage, Domain, Joint, Keywords};
-use notation::kinds::Written;
+use notation::domains::FromWords;
 use notation::trouble::Trouble;
 use notation::words::Words;
 
@@ -21,7 +22,6 @@ type Double = Joint<Book, Book>;
 type Nested = Joint<Joint<TwoKeys, Mirror>, Coverage>;
 
 /// What is asked of a domain.
-// An enum and no closure, which takes a domain of one type; a trait, as for what is asked of schemas, would be three types for three short arms.
 #[derive(Clone, Copy, Debug, PartialEq, Eq)]
 pub enum Question {
     Has,
@@ -37,7 +37,7 @@ pub fn make<'a>(words: &mut Words<'a>) -> Result<Answer, Trouble<'a>> {
 }
 
 /// A question put to a domain of this kind.
-fn put<'a, D: Domain + Written>(
+fn put<'a, D: Domain + FromWords>(
     question: Question,
     words: &mut Words<'a>,
 ) -> Result<Answer, Trouble<'a>> {

@@ -1,14 +1,15 @@
-//! The test program: answers each case on its input by the public calls, a line each, for a comparison with what was computed apart from it.
+//! The test program: answers each case on its input by the public calls, a line each, for a
+//! comparison with what was computed apart from it.
 #![tactic(auto)]
 
 use crate::answer::Answer;
-use crate::compares::{Begin, Desk};
+use crate::compares::{Areas, Begin};
 use crate::domains::Question;
 use crate::reply::Reply;
-use crate::trees::{Check, Live, Shelf};
+use crate::trees::{Check, Live, Schemas};
 use crate::trims::Trim;
 use notation::trouble::Trouble;
-use notation::words::{Words, aside};
+use notation::words::{Words, is_comment};
 use std::alloc::Global;
 use std::io::{BufRead, BufReader};
 
@@ -24,30 +25,30 @@ mod trims;
 
 /// What a call on an area comes to, by the word that says which.
 fn called<'a>(
-    shelf: &Shelf,
-    desk: &mut Desk,
+    schemas: &Schemas,
+    areas: &mut Areas,
     question: &'a str,
     words: &mut Words<'a>,
 ) -> Result<Reply, Trouble<'a>> {
     match question {
-        "open" => desk.open(words),
-        "take" => desk.begin(shelf, Begin::Take, words),
-        "oust" => desk.begin(shelf, Begin::Oust, words),
-        "step" => desk.step(shelf, words),
-        "conclude" => desk.conclude(words),
-        "trail" => desk.trail(words),
-        "document" => desk.document(shelf, words),
-        "giveup" => desk.give_up(words),
+        "open" => areas.open(words),
+        "take" => areas.begin(schemas, Begin::Take, words),
+        "oust" => areas.begin(schemas, Begin::Oust, words),
+        "step" => areas.step(schemas, words),
+        "conclude" => areas.conclude(words),
+        "trail" => areas.trail(words),
+        "document" => areas.document(schemas, words),
+        "giveup" => areas.give_up(words),
         _ => Err(Trouble::Unreadable(question)),
     }
 }
 
-/// What a case comes to. Its first word says what is asked, the others of what. A schema that it names goes onto the shelf, an area and a
-/// claim onto the desk.
+/// What a case comes to. Its first word says what is asked, the others of what. It may name a
+/// schema, an area or a claim for the cases after it.
 fn answered<'a>(
     heap: Global,
-    shelf: &mut Shelf,
-    desk: &mut Desk,
+    schemas: &mut Schemas,
+    areas: &mut Areas,
     case: &'a str,
 ) -> Result<Answer, Trouble<'a>> {
     let mut words = Words::new(heap, case);
@@ -58,25 +59,26 @@ fn answered<'a>(
         "has" => domains::ask(Question::Has, &mut words),
         "least" => domains::ask(Question::Least, &mut words),
         "gap" => domains::ask(Question::Gap, &mut words),
-        "schema" => shelf.define(&mut words),
-        "check" => shelf.ask::<Check>(&mut words),
-        "live" => shelf.ask::<Live>(&mut words),
-        "trim" => shelf.ask::<Trim>(&mut words),
-        _ => Ok(Answer::Called(called(shelf, desk, question, &mut words)?)),
+        "schema" => schemas.define(&mut words),
+        "check" => schemas.ask::<Check>(&mut words),
+        "live" => schemas.ask::<Live>(&mut words),
+        "trim" => schemas.ask::<Trim>(&mut words),
+        _ => Ok(Answer::Called(called(schemas, areas, question, &mut words)?)),
     }
 }
 
-/// Prints a line for each line of the input: the case with what it comes to, and an aside as it stands.
-fn answer_all(rt: &HostRuntime, desk: &mut Desk) -> anyhow::Result<()> {
-    let mut shelf = Shelf::new(rt.alloc());
+/// Prints a line for each line of the input: the case with what it comes to, and a comment as it
+/// stands.
+fn answer_all(rt: &HostRuntime, areas: &mut Areas) -> anyhow::Result<()> {
+    let mut schemas = Schemas::new(rt.alloc());
     for line in BufReader::new(rt.alloc(), rt.stdin())?.lines(rt.alloc()) {
         let line = line?;
         let case = line.as_str();
-        if aside(case) {
+        if is_comment(case) {
             println!(rt; "{case}")?;
             continue;
         }
-        match answered(rt.alloc(), &mut shelf, desk, case) {
+        match answered(rt.alloc(), &mut schemas, areas, case) {
             Ok(answer) => println!(rt; "{case} -> {answer}")?,
             Err(trouble) => println!(rt; "{case} -> {trouble}")?,
         }
@@ -86,9 +88,9 @@ fn answer_all(rt: &HostRuntime, desk: &mut Desk) -> anyhow::Result<()> {
 
 /// Answers every case. The claims that are left are spent, however that went.
 fn run(rt: &HostRuntime) -> anyhow::Result<()> {
-    let mut desk = Desk::new(rt.alloc());
-    let answered = answer_all(rt, &mut desk);
-    desk.clear();
+    let mut areas = Areas::new(rt.alloc());
+    let answered = answer_all(rt, &mut areas);
+    areas.clear();
     answered
 }
 

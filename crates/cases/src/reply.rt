@@ -1,9 +1,7 @@
 //! What a call on an area comes to, and how it is printed.
 use api::{Numbers, Refusal};
-use notation::bytes::Listed;
-use notation::claims::Told;
-use notation::findings::Finding;
-use notation::truths::Truth;
+use notation::answers::{ClaimNumbers, Finding, Truth};
+use notation::lists::Bytes;
 use std::fmt;
 
 /// What a call on an area came to.
@@ -55,7 +53,7 @@ struct Output<'a>(&'a [u8]);
 impl<'a> fmt::Display for Output<'a> {
     fn fmt<W: fmt::Write>(&self, f: &mut fmt::Formatter<W>) -> fmt::Result {
         if self.0.len() <= SHOWN {
-            return write!(f, "{}", Listed(self.0));
+            return write!(f, "{}", Bytes(self.0));
         }
         write!(f, "{} bytes, hash {}", self.0.len(), hash(self.0))
     }
@@ -90,22 +88,26 @@ impl fmt::Display for Reply {
     fn fmt<W: fmt::Write>(&self, f: &mut fmt::Formatter<W>) -> fmt::Result {
         match self {
             Reply::Opened => write!(f, "opened"),
-            Reply::Begun(claim) => write!(f, "{}", Told(*claim)),
+            Reply::Begun(claim) => write!(f, "{}", ClaimNumbers(*claim)),
             Reply::Stepped(examined, mark) => write!(f, "({examined}, {mark})"),
             Reply::Included(finding) => write!(f, "{finding}"),
-            Reply::Apart(finding, claim) => write!(f, "{finding}; {}", Told(*claim)),
+            Reply::Apart(finding, claim) => write!(f, "{finding}; {}", ClaimNumbers(*claim)),
             Reply::Trailed(length, output, claim) => {
-                let output = Listed(output.as_slice());
-                write!(f, "length {length}; {output}; {}", Told(*claim))
+                let output = Bytes(output.as_slice());
+                write!(f, "length {length}; {output}; {}", ClaimNumbers(*claim))
             }
             Reply::GivenUp(answer) => write!(f, "{answer}"),
-            Reply::Returned(refusal, claim) => write!(f, "refused {refusal}; {}", Told(*claim)),
+            Reply::Returned(refusal, claim) => write!(
+                f,
+                "refused {refusal}; {}",
+                ClaimNumbers(*claim)
+            ),
             Reply::Untrailed {
                 refusal,
                 claim,
                 as_found,
             } => {
-                let (claim, left) = (Told(*claim), left(*as_found));
+                let (claim, left) = (ClaimNumbers(*claim), left(*as_found));
                 write!(f, "refused {refusal}; {claim}; output {left}")
             }
             Reply::Documented {

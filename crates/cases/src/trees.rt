@@ -1,9 +1,9 @@
-//! Cases on schemas: `schema NAME KIND TABLES`, which names one for the cases after it, and then what is asked of it, as
-//! `check NAME BYTES LEVELS` and `live NAME`.
+//! Cases on schemas: `schema NAME KIND TABLES`, which names one for the cases after it, and then
+//! what is asked of it, as `check NAME BYTES LEVELS` and `live NAME`.
 use crate::answer::Answer;
 use crate::domains::Book;
 use api::{Area, Coverage, Cursor, Domain, Keywords, Level, Refusal, Schema};
-use notation::levels::levels;
+use notation::memory::{CHECK_LEVEL, filled};
 use notation::schemas::Tables;
 use notation::trouble::Trouble;
 use notation::words::Words;
@@ -98,14 +98,14 @@ impl<'a> Two<'a> {
 
 /// The schemas that the cases so far named, each the last of its name.
 #[derive(Drop)]
-pub struct Shelf {
+pub struct Schemas {
     schemas: BTreeMap<String, Kinded>,
 }
 
-impl Shelf {
+impl Schemas {
     /// No schemas.
-    pub fn new(heap: Global) -> Shelf {
-        Shelf {
+    pub fn new(heap: Global) -> Schemas {
+        Schemas {
             schemas: BTreeMap::new(heap),
         }
     }
@@ -155,7 +155,7 @@ impl Asked for Check {
         let count = words.number()? as usize;
         Ok(Check {
             tree,
-            levels: levels(words.heap, count)?,
+            levels: filled(words.heap, count, CHECK_LEVEL)?,
         })
     }
 

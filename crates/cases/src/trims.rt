@@ -1,9 +1,9 @@
-//! Cases on trimming: `trim NAME PERMITTED LENGTH LENGTH LENGTH`, with outputs that are filled beforehand, so that each byte that was
-//! written is seen.
+//! Cases on trimming: `trim NAME PERMITTED LENGTH LENGTH LENGTH`, with outputs that are filled
+//! beforehand, so that each byte that was written is seen.
 use crate::answer::Answer;
 use crate::trees::Asked;
 use api::{Domain, Refusal};
-use notation::outputs::Outputs;
+use notation::memory::Outputs;
 use notation::schemas::Tables;
 use notation::trouble::Trouble;
 use notation::words::Words;
@@ -23,7 +23,8 @@ fn are_as_found(outputs: &Outputs) -> bool {
         && is_as_found(outputs.rows.as_slice())
 }
 
-/// What a schema is, trimmed to the symbols of a number, into three outputs of the lengths behind it.
+/// What a schema is, trimmed to the symbols of a number, into three outputs of the lengths behind
+/// it.
 #[derive(Debug, Drop, PartialEq, Eq)]
 pub struct Trim {
     permitted: u32,

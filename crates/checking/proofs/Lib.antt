@@ -1,3 +1,4 @@
+pub mod Laws
 pub mod Midst
 pub mod Outcome
 pub mod Small

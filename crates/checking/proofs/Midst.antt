@@ -9,18 +9,18 @@ use Rattle.codec.specs.declared.item.Item.TheVariants.{Value, Symbol, End}
 use Rattle.codec.specs.declared.item.Level.{Level}
 use Rattle.codec.specs.Items.{Progress, input, midway, Hands, Walks}
 use Rattle.codec.specs.Piles.{slots, topmost}
-use Rattle.codec.specs.Reading.{read_tree, whole}
+use Rattle.codec.specs.Reading.{read_all}
 use Rattle.codec.proofs.Slots.{topmost_of}
 use Rattle.schema.specs.Automata.{Automaton}
 use Rattle.checking.specs.declared.cursor.Cursor.{Cursor}
 use Rattle.checking.specs.Checking.{verdict}
-use Rattle.checking.specs.Steps.{stays, may_end, StepsOn}
+use Rattle.checking.specs.Steps.{answer_if, may_end, TakesSymbol}
 use Rattle.checking.proofs.Stepping.{Unmoved, unmoved}
 use Rattle.checking.proofs.Outcome.{outcome, on_value, on_end, on_strange, on_symbol, on_node_fault, on_symbol_fault}
 
 module _ (A : Automaton) (s : ℕ) (tree : List ℕ) (room : ℕ) where
   abbrev pub the_verdict : Result Bool Refusal
-  the_verdict = verdict A (whole (length tree) s (read_tree (length tree) s room tree))
+  the_verdict = verdict A (read_all s room tree)
 
   -- the outcome of what is left is the verdict on the tree
   pub record Midst (p : Progress Cursor) (answer : Option ℕ) : Type 0 where
@@ -47,16 +47,16 @@ module _ (A : Automaton) (s : ℕ) (tree : List ℕ) (room : ℕ) where
         midst.is
         ∙ ⊎_elim (on_node_fault A (length tree) s room answer (midway p) e) (on_symbol_fault A (length tree) s room answer (midway p) e) (handed (Err e) p' w).0
 
-    pub after_value : (v n : ℕ) (part : Bor (List ℕ)) (p' : Progress Cursor) → Walks cursor p (Ok (Some (Value v n part))) p' → Midst p' (stays answer (λ q. A.has q v))
+    pub after_value : (v n : ℕ) (part : Bor (List ℕ)) (p' : Progress Cursor) → Walks cursor p (Ok (Some (Value v n part))) p' → Midst p' (answer_if answer (λ q. A.has q v))
     after_value v n part p' w = carried _ p' w _ (on_value A (length tree) s room answer (midway p) (midway p') v n part.now (handed _ p' w))
 
-    pub after_end : (p' : Progress Cursor) → Walks cursor p (Ok (Some End)) p' → Midst p' (stays answer (λ _. may_end A (topmost p.levels.entries)))
+    pub after_end : (p' : Progress Cursor) → Walks cursor p (Ok (Some End)) p' → Midst p' (answer_if answer (λ _. may_end A (topmost p.levels.entries)))
     after_end p' w =
         let c = handed _ p' w in
         let top = ap topmost c.on ∙ topmost_of p'.levels.entries c.top in
         carried _ p' w _
         (on_end A (length tree) s room answer (midway p) (midway p') c (omega (arith, midst.same_room))
-        ∙ ap (λ (o : Option (Level Cursor)). outcome A (length tree) s room p'.fresh (stays answer (λ _. may_end A o)) p'.levels.entries p'.left) (sym top))
+        ∙ ap (λ (o : Option (Level Cursor)). outcome A (length tree) s room p'.fresh (answer_if answer (λ _. may_end A o)) p'.levels.entries p'.left) (sym top))
 
     module _ (x : ℕ) (part : Bor (List ℕ)) (p' : Progress Cursor) (w : Walks cursor p (Ok (Some (Symbol x part))) p') where
       pub strange : s ≤ x → the_verdict ≡ Err (record { fault = fault.Symbol; place = length p.read })
@@ -64,7 +64,7 @@ module _ (A : Automaton) (s : ℕ) (tree : List ℕ) (room : ℕ) where
           let here : length tree - length p.left ≡ length p.read = omega (arith, sym (ap length midst.same_input) ∙ length-append p.read p.left) in
           midst.is ∙ on_strange A (length tree) s room answer (midway p) (midway p') x part.now (handed _ p' w) past ∙ ap (λ (n : ℕ). Err (record { fault = fault.Symbol; place = n })) here
 
-      module _ (answer' : Option ℕ) (p'' : Progress Cursor) (steps : StepsOn A x answer (topmost p'.levels.entries) p' answer' p'') where
+      module _ (answer' : Option ℕ) (p'' : Progress Cursor) (steps : TakesSymbol A x answer (topmost p'.levels.entries) p' answer' p'') where
         stood : Unmoved p' p''
         stood = unmoved A x answer (topmost p'.levels.entries) p' answer' p'' steps
 

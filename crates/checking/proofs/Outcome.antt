@@ -16,7 +16,7 @@ use Rattle.codec.specs.Reading.{then, read_symbol, read_children, read_tree}
 use Rattle.codec.specs.Trees.{Tree, node, Children, child, word}
 use Rattle.schema.specs.Automata.{Automaton, passes, present, row_runs, has_next, accepts, accepts_all}
 use Rattle.checking.specs.declared.cursor.Cursor.{Cursor}
-use Rattle.checking.specs.Steps.{stays, both_known, StepsOn}
+use Rattle.checking.specs.Steps.{answer_if, both_known, TakesSymbol}
 
 -- what comes of something that was read
 abbrev pub on_got : {X : Type 0} → Got X → (X → List ℕ → Result Bool Refusal) → Result Bool Refusal
@@ -160,7 +160,7 @@ module _ (A : Automaton) (end s : ℕ) where
           lost true (Some x) (Some y) runs h accepted all lacking = absurd (true≢false lacking)
 
 -- an answer that a test was put to
-tested : (answer : Option ℕ) (test : ℕ → Bool) → present (stays answer test) ≡ (present answer && test (unwrap_or answer 0))
+tested : (answer : Option ℕ) (test : ℕ → Bool) → present (answer_if answer test) ≡ (present answer && test (unwrap_or answer 0))
 tested None test = refl
 tested (Some q) test = by (test q)
   where
@@ -188,7 +188,7 @@ module _ (A : Automaton) (end s room : ℕ) where
     within answer' b levels bs fresh inside is =
         ap (λ (b : Bool). finish A end s b (reverse levels) (room - length levels) bs) (sym is) ∙ ap (λ (f : Bool). outcome f answer' levels bs) (sym inside)
 
-    pub on_value : (b a : Midway Cursor) (v n : ℕ) (bytes : List ℕ) → Opens end room cursor b v n bytes a → outcome b.fresh answer b.levels b.left ≡ outcome a.fresh (stays answer (λ q. A.has q v)) a.levels a.left
+    pub on_value : (b a : Midway Cursor) (v n : ℕ) (bytes : List ℕ) → Opens end room cursor b v n bytes a → outcome b.fresh answer b.levels b.left ≡ outcome a.fresh (answer_if answer (λ q. A.has q v)) a.levels a.left
     on_value b a v n bytes o =
         let space = o.space in
         let deeper = ap length o.deeper ∙ length_push b.levels (record { left = n; at = cursor }) in
@@ -197,9 +197,9 @@ module _ (A : Automaton) (end s room : ℕ) where
         ∙ ap (λ (l : ℕ). pending A end s ok cursor.state (reverse b.levels) l b.left) more
         ∙ opens A end s ok cursor.state (reverse b.levels) (room - length a.levels) v n b.left a.left o.reads
         ∙ ap (λ (fs : List (Level Cursor)). finish A end s (ok && A.has cursor.state v) fs (room - length a.levels) a.left) (sym (ap reverse o.deeper ∙ reverse_top b.levels _))
-        ∙ within (stays answer (λ q. A.has q v)) (ok && A.has cursor.state v) a.levels a.left a.fresh o.inside (tested answer (λ q. A.has q v))
+        ∙ within (answer_if answer (λ q. A.has q v)) (ok && A.has cursor.state v) a.levels a.left a.fresh o.inside (tested answer (λ q. A.has q v))
 
-    pub on_end : (b a : Midway Cursor) (c : Closes end room cursor b a) → length b.levels ≤ room → outcome b.fresh answer b.levels b.left ≡ outcome a.fresh (stays answer (λ _. A.ends c.top.at.state c.top.at.row)) a.levels a.left
+    pub on_end : (b a : Midway Cursor) (c : Closes end room cursor b a) → length b.levels ≤ room → outcome b.fresh answer b.levels b.left ≡ outcome a.fresh (answer_if answer (λ _. A.ends c.top.at.state c.top.at.row)) a.levels a.left
     on_end b a c fits =
         let top = c.top in
         let shorter = ap length c.on ∙ length_push a.levels top in
@@ -210,7 +210,7 @@ module _ (A : Automaton) (end s room : ℕ) where
         ∙ closes A end s ok top (reverse a.levels) (room - length b.levels) b.left c.done
         ∙ ap (λ (l : ℕ). finish A end s (ok && ends) (reverse a.levels) l b.left) more
         ∙ ap (λ (bs : List ℕ). finish A end s (ok && ends) (reverse a.levels) (room - length a.levels) bs) (sym c.same)
-        ∙ within (stays answer (λ _. ends)) (ok && ends) a.levels a.left a.fresh c.inside (tested answer (λ _. ends))
+        ∙ within (answer_if answer (λ _. ends)) (ok && ends) a.levels a.left a.fresh c.inside (tested answer (λ _. ends))
 
     -- a symbol of the schema, after which the answer and what the top level keeps are as `name` leaves them
     module _ (b a : Midway Cursor) (x : ℕ) (bytes : List ℕ) (o : Names end room cursor b x bytes a) where
@@ -269,15 +269,15 @@ module _ (A : Automaton) (end s room : ℕ) where
           ∙ ap (λ (f : Bool). outcome f answer' p'.levels.entries p.left) (sym keeps.fresh)
           ∙ ap (λ (bs : List ℕ). outcome p'.fresh answer' p'.levels.entries bs) (sym keeps.left)
 
-      pub on_symbol : StepsOn A x answer (topmost p.levels.entries) p answer' p' → Same
-      on_symbol steps = by answer refl (subst (λ t. StepsOn A x answer t p answer' p') (ap topmost o.fewer ∙ topmost_of o.below top) steps)
+      pub on_symbol : TakesSymbol A x answer (topmost p.levels.entries) p answer' p' → Same
+      on_symbol steps = by answer refl (subst (λ t. TakesSymbol A x answer t p answer' p') (ap topmost o.fewer ∙ topmost_of o.below top) steps)
         where
           known : (next_row next_state : Option ℕ) → ok ≡ true → A.step top.at.state top.at.row x ≡ next_row → A.next top.at.state x ≡ next_state → both_known next_row next_state top.at.state p answer' p' → Same
           known None o fine row state k = on_no (rw (fine, row) refl) k.0 k.1
           known (Some r') None fine row state k = on_no (rw (fine, row, state) refl) k.0 k.1
           known (Some r') (Some q') fine row state k = on_both r' q' fine row state k.0 k.1
 
-          by : (n : Option ℕ) → answer ≡ n → StepsOn A x n (Some top) p answer' p' → Same
+          by : (n : Option ℕ) → answer ≡ n → TakesSymbol A x n (Some top) p answer' p' → Same
           by None no-longer k = on_no (ap (λ n. present n && (present (A.step top.at.state top.at.row x) && present (A.next top.at.state x))) no-longer) k.0 k.1
           by (Some q) so_far k = known (A.step top.at.state top.at.row x) (A.next top.at.state x) (ap present so_far) refl refl k
 

@@ -6,20 +6,20 @@ use Rattle.codec.specs.Piles.{Stack, slots, topmost}
 use Rattle.codec.proofs.Slots.{same_slots}
 use Rattle.schema.specs.Automata.{Automaton}
 use Rattle.checking.specs.declared.cursor.Cursor.{Cursor}
-use Rattle.checking.specs.Steps.{both_known, StepsOn}
+use Rattle.checking.specs.Steps.{both_known, TakesSymbol}
 
 module _ (A : Automaton) (a q : ℕ) (before : Progress Cursor) (answer : Option ℕ) (top : Option (Level Cursor)) (f : Level Cursor) (so_far : answer ≡ Some q) (on : top ≡ Some f) where
   -- over the level on top
-  over : (answer' : Option ℕ) (after : Progress Cursor) → both_known (A.step f.at.state f.at.row a) (A.next f.at.state a) f.at.state before answer' after → StepsOn A a answer top before answer' after
+  over : (answer' : Option ℕ) (after : Progress Cursor) → both_known (A.step f.at.state f.at.row a) (A.next f.at.state a) f.at.state before answer' after → TakesSymbol A a answer top before answer' after
   over answer' after h = rw (so_far, on) h
 
-  pub no_row : (answer' : Option ℕ) → A.step f.at.state f.at.row a ≡ None → answer' ≡ None → StepsOn A a answer top before answer' before
+  pub no_row : (answer' : Option ℕ) → A.step f.at.state f.at.row a ≡ None → answer' ≡ None → TakesSymbol A a answer top before answer' before
   no_row answer' none is = over answer' before (rw (none) (is, refl))
 
-  pub no_state : (r : ℕ) (answer' : Option ℕ) → A.step f.at.state f.at.row a ≡ Some r → A.next f.at.state a ≡ None → answer' ≡ None → StepsOn A a answer top before answer' before
+  pub no_state : (r : ℕ) (answer' : Option ℕ) → A.step f.at.state f.at.row a ≡ Some r → A.next f.at.state a ≡ None → answer' ≡ None → TakesSymbol A a answer top before answer' before
   no_state r answer' row none is = over answer' before (rw (row, none) (is, refl))
 
-  pub goes_on : (r p : ℕ) (after : Progress Cursor) → A.step f.at.state f.at.row a ≡ Some r → A.next f.at.state a ≡ Some p → Keeps (record { state = f.at.state; row = r }) before after → StepsOn A a answer top before (Some p) after
+  pub goes_on : (r p : ℕ) (after : Progress Cursor) → A.step f.at.state f.at.row a ≡ Some r → A.next f.at.state a ≡ Some p → Keeps (record { state = f.at.state; row = r }) before after → TakesSymbol A a answer top before (Some p) after
   goes_on r p after row state keeps = over (Some p) after (rw (row, state) (refl, keeps))
 
 -- a reader that is where it was, with as many levels
@@ -56,7 +56,7 @@ both_unmoved (Some r) None q before answer' after k = same_reader before after k
 both_unmoved None o q before answer' after k = same_reader before after k.1
 
 -- a symbol's step leaves the reader where it is
-pub unmoved : (A : Automaton) (a : ℕ) (answer : Option ℕ) (top : Option (Level Cursor)) (before : Progress Cursor) (answer' : Option ℕ) (after : Progress Cursor) → StepsOn A a answer top before answer' after → Unmoved before after
+pub unmoved : (A : Automaton) (a : ℕ) (answer : Option ℕ) (top : Option (Level Cursor)) (before : Progress Cursor) (answer' : Option ℕ) (after : Progress Cursor) → TakesSymbol A a answer top before answer' after → Unmoved before after
 unmoved A a (Some q) (Some f) before answer' after k = both_unmoved (A.step f.at.state f.at.row a) (A.next f.at.state a) f.at.state before answer' after k
 unmoved A a (Some q) None before answer' after k = same_reader before after k.1
 unmoved A a None top before answer' after k = same_reader before after k.1

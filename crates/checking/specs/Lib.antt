@@ -1,3 +1,4 @@
 pub mod Checking
 pub mod Examples
+pub mod Laws
 pub mod Steps

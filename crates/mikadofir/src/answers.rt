@@ -1,6 +1,6 @@
 //! What the calls on an area answer, as it is printed.
 use api::Refusal;
-use notation::bytes::Listed;
+use notation::lists::Bytes;
 use std::fmt;
 
 /// An answer, or the refusal that is given in its place.
@@ -48,6 +48,6 @@ impl Written {
 
 impl fmt::Display for Written {
     fn fmt<W: fmt::Write>(&self, f: &mut fmt::Formatter<W>) -> fmt::Result {
-        write!(f, "{}", Listed(self.as_slice()))
+        write!(f, "{}", Bytes(self.as_slice()))
     }
 }

@@ -1,12 +1,13 @@
-//! What an engine lacks of what a maker uses: `letters`, `keywords` or a `book` with both, the maker's domain before the engine's.
-ghost use Rattle.std.specs.Prelude.{◌≡◌, ℕ, ◌-◌, if◌then◌else◌, nat_lt};
+//! What an engine lacks of what a maker uses: `letters`, `keywords` or a `book` with both, the
+//! maker's domain before the engine's.
+ghost use Rattle.std.specs.Prelude.{◌≡◌, ℕ};
 ghost use Rattle.mikadofir.specs.declared.domains.Member.{Member};
 ghost use Rattle.mikadofir.specs.declared.domains.Member.TheVariants.{Keyword, Letter};
-ghost use Rattle.mikadofir.specs.Lacking.{Lacking};
+ghost use Rattle.mikadofir.specs.Lacking.{by_half, Lacking};
 
 use crate::job::Task;
 use api::{Coverage, Domain, Joint, Keywords, MIDDLE};
-use notation::kinds::Written;
+use notation::domains::FromWords;
 use notation::trouble::Trouble;
 use notation::words::Words;
 use std::fmt;
@@ -57,10 +58,9 @@ impl Named for Coverage {
 }
 
 impl<L: Named, R: Named> Named for Joint<L, R> {
-    ghost names = { λ v. (if nat_lt v 2147483648 then L.Named.names v else R.Named.names (v - 2147483648)) };
+    ghost names = { by_half L.Named.names R.Named.names };
 
     fn member(value: u32) -> Member {
-        // A match and not `map_or_else`, which takes the value of the left half last and in a closure.
         match value.checked_sub(MIDDLE) {
             Some(right) => R::member(right),
             None => L::member(value),
@@ -89,7 +89,7 @@ fn first_lacking<D: Domain + Named>(maker: &D, engine: &D) -> Option<Member>
 }
 
 /// What the second domain read, the engine's, lacks of the first, the maker's.
-fn lacking<'a, D: Domain + Written + Named>(words: &mut Words<'a>) -> Result<Lack, Trouble<'a>> {
+fn lacking<'a, D: Domain + FromWords + Named>(words: &mut Words<'a>) -> Result<Lack, Trouble<'a>> {
     let maker = D::read(words)?;
     let engine = D::read(words)?;
     words.end()?;

@@ -2,12 +2,12 @@
 use crate::domains::Book;
 use crate::job::Task;
 use notation::schemas::Tables;
-use notation::states::States;
+use notation::sets::States;
 use notation::trouble::Trouble;
 use notation::words::Words;
 use std::fmt;
 
-/// The states of a schema, the live and the dead.
+/// The live and the dead states of a schema.
 #[derive(Clone, Copy, Debug, PartialEq, Eq)]
 pub struct Split {
     live: States,
@@ -21,7 +21,6 @@ impl fmt::Display for Split {
 }
 
 /// The first so many states, at most 64, one a bit.
-// A branch and not `checked_shl`: that takes a `u32`, and the count would first be turned into one, with a branch of its own.
 fn first(count: usize) -> u64 {
     if count < 64 {
         !(u64::MAX << count)
@@ -31,7 +30,7 @@ fn first(count: usize) -> u64 {
 }
 
 /// The live and the dead states of the schema of the next words.
-fn told_apart<'a>(words: &mut Words<'a>) -> Result<Split, Trouble<'a>> {
+fn live_and_dead<'a>(words: &mut Words<'a>) -> Result<Split, Trouble<'a>> {
     let tables: Tables<Book> = Tables::read(words)?;
     words.end()?;
     let schema = tables.schema();
@@ -50,9 +49,8 @@ impl Task for Live {
     type Outcome = Split;
 
     fn outcome<'a>(&mut self, kind: &'a str, words: &mut Words<'a>) -> Result<Split, Trouble<'a>> {
-        // Spelled out, as in each task: a test of the kind that tasks share would be no shorter than the arm that it saves.
         match kind {
-            "schema" => told_apart(words),
+            "schema" => live_and_dead(words),
             _ => Err(Trouble::Unreadable(kind)),
         }
     }

@@ -1,4 +1,5 @@
-//! The program: does the jobs that lie in the folder it is run in, one after the other, and prints what took place.
+//! The program: does the jobs that lie in the folder it is run in, one after the other, and prints
+//! what took place.
 #![tactic(auto)]
 
 use crate::domains::Domains;
@@ -29,7 +30,8 @@ const LIVE: &'static str = "live.txt";
 /// The job on trimming: a line for each schema with the symbols that it is trimmed to.
 const TRIM: &'static str = "trim.txt";
 
-/// The job on comparing: a line for each schema of a book or an engine, and several for each engine that a comparison is ousted for.
+/// The job on comparing: a line for each schema of a book or an engine, and several for each engine
+/// that a comparison is ousted for.
 const COMPARE: &'static str = "compare.txt";
 
 /// Does each task in turn.

@@ -1,5 +1,6 @@
-//! What a maker's book may hold against what an engine can set, and then, before that is decided, against what another can set, in one area:
-//! `book NAME TABLES` and `engine NAME TABLES`, each in force until the next, and `oust NAME TABLES`, the other engine.
+//! What a maker's book may hold against what an engine can set, and then, before that is decided,
+//! against what another can set, in one area: `book NAME TABLES` and `engine NAME TABLES`, each in
+//! force until the next, and `oust NAME TABLES`, the other engine.
 use crate::answers::{Answer, Stepped, Written};
 use crate::claims::given_up;
 use crate::domains::Book;
@@ -9,9 +10,8 @@ use api::{
     ApartClaim, Area, Claim, Concluded, LONGEST, MOST_STEPS, Numbers, Refusal, Schema, Verdict,
     conclude, open, oust, take, trail,
 };
-use notation::claims::Told;
-use notation::filled::filled;
-use notation::findings::Finding;
+use notation::answers::{ClaimNumbers, Finding};
+use notation::memory::filled;
 use notation::schemas::Tables;
 use notation::trouble::Trouble;
 use notation::words::Words;
@@ -51,7 +51,8 @@ struct Writings {
     document: Answer<Document>,
 }
 
-/// What the calls that ended a comparison came to: conclude, what is written where it was apart, and giving up where a claim was left.
+/// What the calls that ended a comparison came to: conclude, what is written where it was apart,
+/// and giving up where a claim was left.
 #[derive(Drop)]
 struct Ending {
     claim: Numbers,
@@ -110,7 +111,7 @@ fn trail_of(area: &Area, claim: ApartClaim, mut output: Vec<u8>) -> (Answer<Writ
 
 impl fmt::Display for Ending {
     fn fmt<W: fmt::Write>(&self, f: &mut fmt::Formatter<W>) -> fmt::Result {
-        let claim = Told(self.claim);
+        let claim = ClaimNumbers(self.claim);
         write!(f, "\n  conclude, {claim}: {}", self.concluded)?;
         if let Some(Writings { trail, document }) = &self.writings {
             write!(f, "\n  trail, {claim}: {trail}")?;
@@ -137,7 +138,7 @@ pub struct Calls {
 
 impl fmt::Display for Calls {
     fn fmt<W: fmt::Write>(&self, f: &mut fmt::Formatter<W>) -> fmt::Result {
-        let (earlier, later) = (Told(self.earlier), Told(self.later));
+        let (earlier, later) = (ClaimNumbers(self.earlier), ClaimNumbers(self.later));
         write!(f, "area {AREA}")?;
         write!(f, "\n  take: {earlier}")?;
         write!(f, "\n  step, {earlier}: {}", self.few)?;
@@ -168,13 +169,19 @@ impl Lent {
     }
 }
 
-/// Begins a comparison, ousts it with another after a few pairs, and ends both. Where the other can't begin, the first is given up.
-fn contend(area: &mut Area, first: Sides, second: Sides, lent: Lent) -> Result<Calls, Refusal> {
+/// Begins a comparison, ousts it with another after a few pairs, and ends both. Where the other
+/// can't begin, the first is given up.
+fn compare_twice(
+    area: &mut Area,
+    first: Sides,
+    second: Sides,
+    lent: Lent,
+) -> Result<Calls, Refusal> {
     let mut scratch = lent.scratch;
     let claim = take(area, &first.book, &first.engine)?;
     let earlier = claim.numbers();
     let few = first.step(area, earlier, FEW, &mut scratch);
-    // no `?`: the first claim is spent before the refusal goes on
+    // the first claim is spent before the refusal goes on
     let holder = match oust(area, &second.book, &second.engine) {
         Ok(holder) => holder,
         Err(refusal) => {
@@ -263,7 +270,7 @@ fn called<'a>(
         book,
         engine: other.schema(),
     };
-    Ok(contend(area, first, second, lent)?)
+    Ok(compare_twice(area, first, second, lent)?)
 }
 
 impl Task for Ousting {

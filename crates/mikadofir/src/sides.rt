@@ -4,15 +4,14 @@ use crate::domains::Book;
 use api::{
     Area, Cursor, LEVELS, Level, Numbers, ROW_PAIRS, RowPair, Schema, Spot, check, document, step,
 };
-use notation::levels::levels;
-use notation::row_pairs::row_pairs;
-use notation::spots::spots;
+use notation::answers::Truth;
+use notation::memory::{CHECK_LEVEL, DOCUMENT_LEVEL, SEARCH_PAIR, filled};
 use notation::trouble::Trouble;
-use notation::truths::Truth;
 use std::alloc::Global;
 use std::fmt;
 
-/// What the calls are lent to work in: row pairs, and levels for writing a document and for checking one.
+/// What the calls are lent to work in: row pairs, and levels for writing a document and for
+/// checking one.
 #[derive(Drop)]
 pub struct Scratch {
     row_pairs: Vec<RowPair>,
@@ -24,9 +23,9 @@ impl Scratch {
     /// Enough for any call. A document has no more levels than are lent for it.
     pub fn new<'a>(heap: Global) -> Result<Scratch, Trouble<'a>> {
         Ok(Scratch {
-            row_pairs: row_pairs(heap, ROW_PAIRS)?,
-            spots: spots(heap, LEVELS)?,
-            levels: levels(heap, LEVELS)?,
+            row_pairs: filled(heap, ROW_PAIRS, SEARCH_PAIR)?,
+            spots: filled(heap, LEVELS, DOCUMENT_LEVEL)?,
+            levels: filled(heap, LEVELS, CHECK_LEVEL)?,
         })
     }
 
@@ -73,7 +72,8 @@ impl Sides<'_> {
         Answer(answer.map(|(examined, mark)| Stepped { examined, mark }))
     }
 
-    /// Has the document of the comparison whose apart claim has these numbers written to an output, and checks it against both schemas.
+    /// Has the document of the comparison whose apart claim has these numbers written to an output,
+    /// and checks it against both schemas.
     pub fn document(
         self,
         area: &Area,

@@ -1,10 +1,11 @@
-//! Whether trees keep to a book's schema: `schema NAME TABLES`, in force until the next, and `tree NAME BYTES`.
+//! Whether trees keep to a book's schema: `schema NAME TABLES`, in force until the next, and `tree
+//! NAME BYTES`.
 use crate::domains::Book;
 use crate::job::Task;
-use notation::levels::levels;
+use notation::answers::Truth;
+use notation::memory::{CHECK_LEVEL, filled};
 use notation::schemas::Tables;
 use notation::trouble::Trouble;
-use notation::truths::Truth;
 use notation::words::Words;
 use std::fmt;
 
@@ -39,7 +40,7 @@ pub struct Trees {
 fn accepted<'a>(tables: &Tables<Book>, words: &mut Words<'a>) -> Result<bool, Trouble<'a>> {
     let tree = words.bytes()?;
     words.end()?;
-    let mut levels = levels(words.heap, LEVELS)?;
+    let mut levels = filled(words.heap, LEVELS, CHECK_LEVEL)?;
     Ok(api::check(&tables.schema(), tree.as_slice(), levels.as_mut_slice())?)
 }
 

@@ -1,8 +1,8 @@
 //! A book's schema over some of its symbols: `schema NAME SYMBOLS TABLES`.
 use crate::domains::Book;
 use crate::job::Task;
-use notation::bytes::Listed;
-use notation::outputs::{Counts, Outputs};
+use notation::lists::Bytes;
+use notation::memory::{Counts, Outputs};
 use notation::schemas::Tables;
 use notation::trouble::Trouble;
 use notation::words::Words;
@@ -28,14 +28,13 @@ pub struct Trimmed {
 
 impl fmt::Display for Trimmed {
     fn fmt<W: fmt::Write>(&self, f: &mut fmt::Formatter<W>) -> fmt::Result {
-        // the cases print the three outputs too, set apart in another way that is as fixed as this one
         let Counts { states, rows } = self.after;
         write!(f, "states {} to {states}, ", self.before.states)?;
         write!(f, "rows {} to {rows}: ", self.before.rows)?;
         write!(f, "{} {states} {rows} ", self.symbols)?;
-        write!(f, "{} ", Listed(self.tables.transitions.as_slice()))?;
-        write!(f, "{} ", Listed(self.tables.states.as_slice()))?;
-        write!(f, "{}", Listed(self.tables.rows.as_slice()))
+        write!(f, "{} ", Bytes(self.tables.transitions.as_slice()))?;
+        write!(f, "{} ", Bytes(self.tables.states.as_slice()))?;
+        write!(f, "{}", Bytes(self.tables.rows.as_slice()))
     }
 }
 
@@ -71,7 +70,6 @@ impl Task for Trim {
         kind: &'a str,
         words: &mut Words<'a>,
     ) -> Result<Trimmed, Trouble<'a>> {
-        // Spelled out, as in each task: a test of the kind that tasks share would be no shorter than the arm that it saves.
         match kind {
             "schema" => reduced(words),
             _ => Err(Trouble::Unreadable(kind)),

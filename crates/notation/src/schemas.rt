@@ -1,7 +1,8 @@
-//! Schemas as text: `SYMBOLS STATES ROWS TRANSITIONS STATES ROWS DOMAINS`, three counts, three tables, and the domains behind their count.
+//! Schemas as text: `SYMBOLS STATES ROWS TRANSITIONS STATES ROWS DOMAINS`, three counts, three
+//! tables, and the domains behind their count.
 ghost use Rattle.std.specs.Prelude.{◌≡◌};
 
-use crate::kinds::Written;
+use crate::domains::FromWords;
 use crate::trouble::Trouble;
 use crate::words::Words;
 use api::Schema;
@@ -19,14 +20,14 @@ pub struct Tables<D> {
 }
 
 /// The domains that the next words say, behind their count.
-fn domains<'a, D: Written>(words: &mut Words<'a>) -> Result<Vec<D>, Trouble<'a>> {
+fn domains<'a, D: FromWords>(words: &mut Words<'a>) -> Result<Vec<D>, Trouble<'a>> {
     let heap = words.heap;
     (0..words.number()?)
         .map(|_| D::read(words))
         .try_collect(heap)
 }
 
-impl<D: Written> Tables<D> {
+impl<D: FromWords> Tables<D> {
     /// What the next words say. They alone are taken, however many follow.
     pub fn read<'a>(words: &mut Words<'a>) -> Result<Tables<D>, Trouble<'a>> {
         Ok(Tables {
@@ -44,8 +45,12 @@ impl<D: Written> Tables<D> {
 impl<D> Tables<D> {
     /// The schema that these lend.
     pub fn schema(&self) -> Schema<'_, D>
-        ensures counts { (result.symbols ≡ self.now.symbols) × (result.states ≡ self.now.states) × (result.rows ≡ self.now.rows) }
-        ensures bytes { (result.transitions.now ≡ self.now.transitions.items) × (result.state_table.now ≡ self.now.state_table.items) × (result.row_table.now ≡ self.now.row_table.items) }
+        ensures symbols { result.symbols ≡ self.now.symbols }
+        ensures states { result.states ≡ self.now.states }
+        ensures rows { result.rows ≡ self.now.rows }
+        ensures transitions { result.transitions.now ≡ self.now.transitions.items }
+        ensures state_table { result.state_table.now ≡ self.now.state_table.items }
+        ensures row_table { result.row_table.now ≡ self.now.row_table.items }
         ensures domains { result.domains.now ≡ self.now.domains.items }
     {
         Schema {

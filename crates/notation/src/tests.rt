@@ -1,9 +1,6 @@
 //! Where there is memory, lists and schemas are read and lists are filled.
-use crate::filled::filled;
-use crate::levels::levels;
-use crate::outputs::Outputs;
+use crate::memory::{CHECK_LEVEL, DOCUMENT_LEVEL, Outputs, filled};
 use crate::schemas::Tables;
-use crate::spots::spots;
 use crate::words::Words;
 use api::Keywords;
 use std::test::Fail;
@@ -21,8 +18,8 @@ fn lists_are_read(rt: HostRuntime) -> Result<(), Fail> {
 #[test]
 fn lists_are_filled(rt: HostRuntime) -> Result<(), Fail> {
     assert_eq!(rt; filled(rt.alloc(), 3, 7)?.as_slice(), [7, 7, 7].as_slice());
-    assert_eq!(rt; levels(rt.alloc(), 2)?.len(), 2);
-    assert_eq!(rt; spots(rt.alloc(), 4)?.len(), 4);
+    assert_eq!(rt; filled(rt.alloc(), 2, CHECK_LEVEL)?.len(), 2);
+    assert_eq!(rt; filled(rt.alloc(), 4, DOCUMENT_LEVEL)?.len(), 4);
     let outputs = Outputs::new(rt.alloc(), 1, 2, 3, 9)?;
     assert_eq!(rt; outputs.rows.as_slice(), [9, 9, 9].as_slice());
     Ok(())

@@ -1,4 +1,5 @@
-//! Why a text came to nothing: it says nothing that is read there, what it says is refused, or memory is gone.
+//! Why a text came to nothing: it says nothing that is read there, what it says is refused, or
+//! memory is gone.
 ghost use Rattle.std.specs.Prelude.{◌≡◌};
 ghost use Rattle.notation.specs.declared.trouble.Trouble.TheVariants.{Memory, Refused};
 

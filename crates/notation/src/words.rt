@@ -1,9 +1,8 @@
-//! Words and the numbers in them: what every text form is made of.
-ghost use Rattle.std.specs.Prelude.{◌≡◌, ◌^◌, ◌<◌};
+//! The words of a line, and the numbers that they say.
+ghost use Rattle.std.specs.Prelude.{◌≡◌, ◌^◌};
 ghost use Rattle.std.specs.Option.{SomeIff, ok_or};
 ghost use Rattle.std.specs.Str.Iter.{split_whitespace_rest};
-ghost use Rattle.std.specs.Str.Parse.{IsNumeral, digits_value};
-ghost use Rattle.notation.specs.Words.{Takes, NumberOf, EndOf};
+ghost use Rattle.notation.specs.Words.{Takes, IsNumberBelow, number_in, NumberOf, EndOf};
 
 use crate::trouble::Trouble;
 use std::alloc::Global;
@@ -53,9 +52,10 @@ impl<'a> Words<'a> {
     }
 }
 
-/// The number that a text of digits says, or none where it is no such text or the number is too large.
+/// The number that a text of digits says, or none where it is no such text or the number is too
+/// large.
 pub fn digits(text: &str) -> Option<u32>
-    ensures { SomeIff result (IsNumeral 10 text.now × (digits_value 10 text.now < 2 ^ 32)) (digits_value 10 text.now) }
+    ensures { SomeIff result (IsNumberBelow (2 ^ 32) text.now) (number_in text.now) }
 {
     if text.starts_with('+') {
         return None;
@@ -64,7 +64,7 @@ pub fn digits(text: &str) -> Option<u32>
 }
 
 /// Whether a line is there for its reader alone: blank, or a comment behind '#'.
-pub fn aside(line: &str) -> bool {
+pub fn is_comment(line: &str) -> bool {
     let text = line.trim();
     text.is_empty() || text.starts_with('#')
 }

@@ -1,12 +1,12 @@
 -- Tables without a fault are those with sound sizes whose states are each without one. Assumes nothing.
-use Rattle.std.proofs.Common.{◌≡◌, ℕ, zero, suc, ◌+◌, ◌<◌, ◌≤◌, Bool, false, cond, not, eqb, ltb, List, [], ◌∷◌, Some, None, Option, refl, ap, ◌∙◌, arith}
+use Rattle.std.proofs.Common.{◌≡◌, ℕ, ◌+◌, ◌<◌, ◌≤◌, false, not, eqb, ltb, List, ◌∷◌, None, Option, refl, ap, ◌∙◌}
 use Rattle.std.specs.Option.{option_map}
 use Rattle.std.proofs.lemmas.Bool.{and_from, cond-false, eq-eqb, le-leb, le-ltb, leb-false, lt-leb, lt-ltb, ltb-false, not_from_true, or_from, or_parts, or_right}
 use Rattle.refusal.specs.Order.{first_of}
 use Rattle.refusal.specs.declared.fault.Fault.TheVariants.{State, Row, Domain}
-use Rattle.schema.specs.Below.{some_below, lowest}
 use Rattle.schema.specs.Faults.{outside, stray, size_wrong, state_wrong, entries_wrong, line_wrong, row_wrong, domain_wrong, at_lowest, size_fault, table_fault}
 use Rattle.schema.specs.Tables.{Tables, transition_byte, domain_number, row_count, first_row, end_mark, row_byte}
+use Rattle.schema.proofs.Searches.{none_below, lowest_none_below}
 use Rattle.schema.proofs.Sizes.{Within, inside, Sized}
 use Rattle.schema.proofs.Sound.{first_none, mapped_none, lowest_none, some_none}
 
@@ -39,16 +39,6 @@ fine T sound q low =
 first_from : {X : Type 0} (o : Option X) (os : List (Option X)) → o ≡ None → first_of os ≡ None → first_of (o ∷ os) ≡ None
 first_from o os none rest = ap (λ k. first_of (k ∷ os)) none ∙ rest
 
-module _ (test : ℕ → Bool) where
-  lowest_from : (n : ℕ) → ((i : ℕ) → i < n → test i ≡ false) → lowest n test ≡ None
-  lowest_from zero each = refl
-  lowest_from (suc n) each =
-      first_from (lowest n test) _ (lowest_from n (λ i low. each i (omega arith))) (first_from (cond (test n) (Some n) None) [] (cond-false (test n) (Some n) None (each n (omega arith))) refl)
-
-  some_from : (n : ℕ) → ((i : ℕ) → i < n → test i ≡ false) → some_below n test ≡ false
-  some_from zero each = refl
-  some_from (suc n) each = or_from _ _ (some_from n (λ i low. each i (omega arith))) (each n (omega arith))
-
 outside_from : (low high n : ℕ) → Within low high n → outside low high n ≡ false
 outside_from low high n within = not_from_true _ (and_from _ _ (le-leb low n within.from) (le-leb n high within.to))
 
@@ -64,21 +54,21 @@ size_fine T sized =
 pub no_fault : (T : Tables) → Sized T → ((q : ℕ) → q < T.states → Fine T q) → table_fault T ≡ None
 no_fault T sized each =
     first_from (size_fault T) _ (cond-false (size_wrong T) _ None (size_fine T sized))
-    (first_from (at_lowest T State) _ (ap (option_map _) (lowest_from (state_wrong T) T.states state_fine))
-    (first_from (at_lowest T Row) _ (ap (option_map _) (lowest_from (row_wrong T) T.states row_fine))
-    (first_from (at_lowest T Domain) _ (ap (option_map _) (lowest_from (domain_wrong T) T.states (λ q low. lt-leb T.domains (domain_number T q) (each q low).domain))) refl)))
+    (first_from (at_lowest T State) _ (ap (option_map _) (lowest_none_below (state_wrong T) T.states state_fine))
+    (first_from (at_lowest T Row) _ (ap (option_map _) (lowest_none_below (row_wrong T) T.states row_fine))
+    (first_from (at_lowest T Domain) _ (ap (option_map _) (lowest_none_below (domain_wrong T) T.states (λ q low. lt-leb T.domains (domain_number T q) (each q low).domain))) refl)))
   where
     state_fine : (q : ℕ) → q < T.states → state_wrong T q ≡ false
-    state_fine q low = some_from (λ a. stray T.states (transition_byte T q a)) T.symbols (each q low).transitions
+    state_fine q low = none_below (λ a. stray T.states (transition_byte T q a)) T.symbols (each q low).transitions
 
     line_fine : (q r : ℕ) → q < T.states → r < row_count T q → line_wrong T q r ≡ false
     line_fine q r low inside =
-        or_from _ _ (le-ltb 1 (end_mark T q r) ((each q low).ends r inside)) (some_from (λ a. stray (row_count T q) (row_byte T q r a)) T.symbols (λ a in_row. (each q low).entries r a inside in_row))
+        or_from _ _ (le-ltb 1 (end_mark T q r) ((each q low).ends r inside)) (none_below (λ a. stray (row_count T q) (row_byte T q r a)) T.symbols (λ a in_row. (each q low).entries r a inside in_row))
 
     row_fine : (q : ℕ) → q < T.states → row_wrong T q ≡ false
     row_fine q low =
         or_from _ _ (outside_from 1 16 (row_count T q) (each q low).rows)
-        (or_from _ _ (le-ltb T.rows (first_row T q + row_count T q) (each q low).fits) (some_from (line_wrong T q) (row_count T q) (λ r inside. line_fine q r low inside)))
+        (or_from _ _ (le-ltb T.rows (first_row T q + row_count T q) (each q low).fits) (none_below (line_wrong T q) (row_count T q) (λ r inside. line_fine q r low inside)))
 
 -- an entry below the limit, and none, are not stray
 pub stray_below : (limit b : ℕ) → b < limit → stray limit b ≡ false

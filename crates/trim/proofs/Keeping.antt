@@ -10,8 +10,8 @@ use Rattle.schema.specs.Rows.{AfterEdge}
 use Rattle.schema.specs.Tables.{tables, sets, automaton_of}
 use Rattle.schema.proofs.Gathering.{Partly, chosen_some, partly_start, partly_here, partly_more, partly_done}
 use Rattle.schema.proofs.Onward.{live_leads, path_push}
+use Rattle.schema.proofs.Permits.{permit_inside}
 use Rattle.schema.proofs.Sizes.{sized}
-use Rattle.schema.proofs.Sound.{sound}
 use Rattle.trim.specs.Kept.{LedTo}
 
 -- a live symbol leads from one state to another
@@ -58,7 +58,7 @@ module _ {D : Type 0} (holds : D → ℕ → Bool) (t : Tested D) (permitted : �
   led_on i a j low so e = (so.0 ++ a ∷ [], path_push over_permitted so.0 0 i a j so.1 e.0 e.1)
 
   led_inside : (i a j : ℕ) → i < t.measured.schema.states → LiveEdge over_permitted i a j → j < t.measured.schema.states
-  led_inside i a j low e = (sound (tables t.measured.schema) (sets holds t.measured.schema) t.sound).next_in i a j low (chosen_some _ _ j e.1).1
+  led_inside i a j low e = permit_inside (bit permitted) (tables t.measured.schema) (sets holds t.measured.schema) t.sound i a j low e.1
 
   pub led_start : (one : ℕ) → ((i : ℕ) → bit one i ≡ (bit 0 i || (ltb 0 64 && eqb 0 i))) → LedSoFar one 0
   led_start one = partly_start (LiveEdge over_permitted) Led 0 t.measured.schema.states few ([], refl) led_on led_inside one (omega (arith, (sized (tables t.measured.schema) t.measured.sized).states.from))

@@ -10,7 +10,5 @@ pub mod Permits
 pub mod Simulates
 pub mod Small
 pub mod Sound
-pub mod Steps
-pub mod Sums
 pub mod Unique
 pub mod Written

@@ -12,14 +12,6 @@ module _ (kept : ℕ → Bool) where
   pub number_below : (n q : ℕ) → q < n → kept q ≡ true → count_below q kept < count_below n kept
   number_below n q low there = omega (arith, sum_step (λ i. cond (kept i) 1 0) n q low, one_each q there)
 
-  pub number_upto : (n : ℕ) → count_below n kept ≤ n
-  number_upto zero = omega arith
-  number_upto (suc n) = omega (arith, number_upto n, at_most (kept n))
-    where
-      at_most : (b : Bool) → cond b 1 0 ≤ 1
-      at_most true = omega arith
-      at_most false = omega arith
-
   -- the kept state with a number
   pub record Numbered (n m : ℕ) : Type 0 where
     pub state : ℕ

@@ -43,7 +43,7 @@ module _ (A : Automaton) where
           ⊎_elim (λ first. down t b q bound.1 (on r a (root b) here live.0 bound.0) first) (λ others. down_all r cs bs q here live.1 bound.2 others) there
 
   -- a tree accepted at p with a node bound to q
-  record Spot (p q : ℕ) : Type 0 where
+  record BoundNode (p q : ℕ) : Type 0 where
     tree : Tree
     states : States
     start : root states ≡ p
@@ -53,18 +53,18 @@ module _ (A : Automaton) where
   value : (p : ℕ) → Live A p → (v : ℕ) × (A.has p v ≡ true)
   value p (node v cs, h) = (v, (and_parts (A.has p v) _ h).0)
 
-  record Grown (q : ℕ) (w : List ℕ) : Type 0 where
+  record ChildrenOver (q : ℕ) (w : List ℕ) : Type 0 where
     children : Children
     below : StatesBelow
     spells : word children ≡ w
     bound : BoundAll A q children below
 
   -- children for a sequence into live states
-  grow : (q : ℕ) (w : List ℕ) → AllByRecursion (Leads A q) w → Grown q w
-  grow q [] all = record { children = none; below = leaf; spells = refl; bound = tt }
-  grow q (a ∷ w) all =
+  children_over : (q : ℕ) (w : List ℕ) → AllByRecursion (Leads A q) w → ChildrenOver q w
+  children_over q [] all = record { children = none; below = leaf; spells = refl; bound = tt }
+  children_over q (a ∷ w) all =
       let first = accepted_is_bound.bound A all.0.0 all.0.2.0 all.0.2.1 in
-      let rest = grow q w all.1 in
+      let rest = children_over q w all.1 in
       record {
         children = child a all.0.2.0 rest.children;
         below = beside first.0 rest.below;
@@ -73,20 +73,20 @@ module _ (A : Automaton) where
       }
 
   -- and with a tree of one's own under one of its symbols
-  grow_with : (p a s q : ℕ) → A.next p a ≡ Some s → Spot s q → (u v : List ℕ) → AllByRecursion (Leads A p) (u ++ a ∷ v) → (g : Grown p (u ++ a ∷ v)) × OccursBelow q g.below
-  grow_with p a s q is spot [] v all =
-      let rest = grow p v all.1 in (
+  children_with : (p a s q : ℕ) → A.next p a ≡ Some s → BoundNode s q → (u v : List ℕ) → AllByRecursion (Leads A p) (u ++ a ∷ v) → (g : ChildrenOver p (u ++ a ∷ v)) × OccursBelow q g.below
+  children_with p a s q is bound_node [] v all =
+      let rest = children_over p v all.1 in (
         record {
-          children = child a spot.tree rest.children;
-          below = beside spot.states rest.below;
+          children = child a bound_node.tree rest.children;
+          below = beside bound_node.states rest.below;
           spells = ap (λ (u : List ℕ). a ∷ u) rest.spells;
-          bound = (is ∙ ap Some (sym spot.start), spot.bound, rest.bound);
+          bound = (is ∙ ap Some (sym bound_node.start), bound_node.bound, rest.bound);
         },
-        inl spot.there,
+        inl bound_node.there,
       )
-  grow_with p a s q is spot (c ∷ u) v all =
+  children_with p a s q is bound_node (c ∷ u) v all =
       let first = accepted_is_bound.bound A all.0.0 all.0.2.0 all.0.2.1 in
-      let rest = grow_with p a s q is spot u v all.1 in (
+      let rest = children_with p a s q is bound_node u v all.1 in (
         record {
           children = child c all.0.2.0 rest.0.children;
           below = beside first.0 rest.0.below;
@@ -96,15 +96,15 @@ module _ (A : Automaton) where
         inr rest.1,
       )
 
-  spot : (w : List ℕ) (p q : ℕ) → Live A p → LivePath A p w q → Spot p q
-  spot [] p q live e =
+  bound_node : (w : List ℕ) (p q : ℕ) → Live A p → LivePath A p w q → BoundNode p q
+  bound_node [] p q live e =
       let b = accepted_is_bound.bound A p live.0 live.1 in
       record { tree = live.0; states = b.0; start = b.1; bound = b.2; there = occurs_root b.0 q (b.1 ∙ e) }
-  spot (a ∷ w) p q live path =
+  bound_node (a ∷ w) p q live path =
       let s = path.1.0 in
       let sequence = path.0 in
-      let rest = spot w s q (live_next A p a s sequence path.1.1) path.1.2 in
-      let g = grow_with p a s q path.1.1 rest sequence.0 sequence.1 sequence.2.1 in
+      let rest = bound_node w s q (live_next A p a s sequence path.1.1) path.1.2 in
+      let g = children_with p a s q path.1.1 rest sequence.0 sequence.1 sequence.2.1 in
       let v = value p live in
       record {
         tree = node v.0 g.0.children;
@@ -121,7 +121,7 @@ module _ (A : Automaton) (permitted : ℕ → Bool) where
 
   pub kept_used : (q : ℕ) → Kept A permitted q → Used A permitted q
   kept_used q kept =
-      let there = spot (permit permitted A) kept.1.0 0 q kept.0 kept.1.1 in
+      let there = bound_node (permit permitted A) kept.1.0 0 q kept.0 kept.1.1 in
       let freed = bound_freed permitted A there.tree there.states there.bound in
       record { tree = there.tree; states = there.states; start = there.start; bound = freed.0; within = freed.1; there = there.there }
 

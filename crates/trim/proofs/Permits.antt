@@ -1,18 +1,14 @@
 -- A tree is accepted over permitted symbols exactly when it is accepted and holds no other symbol. Assumes nothing.
-use Rattle.std.proofs.Common.{◌≡◌, ℕ, Bool, true, ◌&&◌, List, [], ◌∷◌, Some, None, Option, sym, refl, ap, ◌∙◌, subst}
+use Rattle.std.proofs.Common.{◌≡◌, ℕ, Bool, true, ◌&&◌, None, sym, refl, ap, ◌∙◌, subst}
 use Rattle.std.proofs.lemmas.Bool.{and_parts, and_from, cond-true}
 use Rattle.std.proofs.lemmas.Bool.Decides.{same_from_decides}
 use Rattle.codec.specs.Trees.{Tree, node, Children, none, child, word}
-use Rattle.schema.specs.Automata.{Automaton, passes, present, row_runs, has_next, accepts}
+use Rattle.schema.specs.Automata.{Automaton, present, row_runs, has_next, accepts}
 use Rattle.schema.specs.Bindings.{States, at, StatesBelow, leaf, beside, root, Bound, BoundAll}
 use Rattle.schema.specs.Permitted.{permit, over, over_all}
+use Rattle.schema.proofs.Permits.{permit_runs}
 use Rattle.schema.proofs.Bound.{accepted_is_bound}
 use Rattle.schema.proofs.Gathering.{chosen_some}
-
--- two tests that agree pass the same
-pub passes_same : (o : Option ℕ) (f g : ℕ → Bool) → ((s : ℕ) → f s ≡ g s) → passes o f ≡ passes o g
-passes_same (Some s) f g same = same s
-passes_same None f g same = refl
 
 -- the symbols of bound children have next states
 pub next_of_bound : (A : Automaton) (q : ℕ) (cs : Children) (bs : StatesBelow) → BoundAll A q cs bs → has_next A q (word cs) ≡ true
@@ -21,16 +17,12 @@ next_of_bound A q (child a t cs) leaf bound = absurd bound
 next_of_bound A q (child a t cs) (beside b bs) bound = and_from _ _ (ap present bound.0) (next_of_bound A q cs bs bound.2)
 
 module _ (permitted : ℕ → Bool) (A : Automaton) where
-  pub runs_permitted : (q r : ℕ) (w : List ℕ) → row_runs (permit permitted A) q r w ≡ row_runs A q r w
-  runs_permitted q r [] = refl
-  runs_permitted q r (a ∷ w) = passes_same (A.step q r a) _ _ (λ s. runs_permitted q s w)
-
   mutual
     pub bound_freed : (t : Tree) (b : States) → Bound (permit permitted A) t b → Bound A t b × (over permitted t ≡ true)
     bound_freed (node v cs) (at q bs) bound =
         let below = below_freed q cs bs bound.2 in
         let runs = (and_parts (row_runs (permit permitted A) q 0 (word cs)) _ bound.1).0 in
-        ((bound.0, and_from _ _ (sym (runs_permitted q 0 (word cs)) ∙ runs) (next_of_bound A q cs bs below.0), below.0), below.1)
+        ((bound.0, and_from _ _ (sym (permit_runs permitted A q 0 (word cs)) ∙ runs) (next_of_bound A q cs bs below.0), below.0), below.1)
 
     below_freed : (q : ℕ) (cs : Children) (bs : StatesBelow) → BoundAll (permit permitted A) q cs bs → BoundAll A q cs bs × (over_all permitted cs ≡ true)
     below_freed q none leaf bound = (tt, refl)
@@ -47,7 +39,7 @@ module _ (permitted : ℕ → Bool) (A : Automaton) where
     bound_permitted (node v cs) (at q bs) bound within =
         let below = below_permitted q cs bs bound.2 within in
         let runs = (and_parts (row_runs A q 0 (word cs)) _ bound.1).0 in
-        (bound.0, and_from _ _ (runs_permitted q 0 (word cs) ∙ runs) (next_of_bound (permit permitted A) q cs bs below), below)
+        (bound.0, and_from _ _ (permit_runs permitted A q 0 (word cs) ∙ runs) (next_of_bound (permit permitted A) q cs bs below), below)
 
     below_permitted : (q : ℕ) (cs : Children) (bs : StatesBelow) → BoundAll A q cs bs → over_all permitted cs ≡ true → BoundAll (permit permitted A) q cs bs
     below_permitted q none leaf bound within = tt

@@ -9,18 +9,18 @@ use Rattle.schema.specs.Live.{Live}
 use Rattle.schema.specs.Permitted.{permit}
 use Rattle.schema.specs.Tables.{Tables, automaton}
 use Rattle.trim.specs.Kept.{Kept}
-use Rattle.trim.specs.Outcome.{Outputs, fits, written, Keeps, NothingLeft, NoRoom, Answered, OneTrimming}
+use Rattle.trim.specs.Outcome.{Outputs, tables_fit, written, KeptSet, NothingLeft, NoRoom, WritesTables, OneTrimming}
 use Rattle.trim.specs.Trimmed.{trimmed}
 
 module _ (T : Tables) (domains : List (ℕ → Bool)) (permitted : ℕ → Bool) where
   -- one test passes just the kept states
-  one_kept : (kept other : ℕ → Bool) → Keeps T domains permitted kept → Keeps T domains permitted other → kept ≡ other
+  one_kept : (kept other : ℕ → Bool) → KeptSet T domains permitted kept → KeptSet T domains permitted other → kept ≡ other
   one_kept kept other keeps also =
       let each : (q : ℕ) → kept q ≡ other q = λ q. same_from_decides {P = Kept (automaton T domains) permitted q} (kept q) (other q) (keeps.exact q) (also.exact q) in
       λ i. λ (q : ℕ). each q i
 
   -- where something is kept, the start is live
-  start_live : (kept : ℕ → Bool) → Keeps T domains permitted kept → Live (permit permitted (automaton T domains)) 0
+  start_live : (kept : ℕ → Bool) → KeptSet T domains permitted kept → Live (permit permitted (automaton T domains)) 0
   start_live kept keeps = ((keeps.exact 0).0 keeps.start).0
 
   module _ (out : Outputs) where
@@ -39,14 +39,14 @@ module _ (T : Tables) (domains : List (ℕ → Bool)) (permitted : ℕ → Bool)
     one_refusal e f (inr (inr room)) (inr (inl nothing)) = absurd (nothing.dead (start_live room.kept room.keeps))
     one_refusal e f (inr (inr room)) (inr (inr also)) = room.is ∙ sym also.is
 
-    not_both : (counts : ℕ × ℕ) (out' : Outputs) (e : Refusal) → Answered T domains permitted out counts out' → Refused e → ⊥
+    not_both : (counts : ℕ × ℕ) (out' : Outputs) (e : Refusal) → WritesTables T domains permitted out counts out' → Refused e → ⊥
     not_both counts out' e a (inl fault) = none-some _ (sym a.keeps.sound ∙ fault)
     not_both counts out' e a (inr (inl nothing)) = nothing.dead (start_live a.kept a.keeps)
     not_both counts out' e a (inr (inr room)) =
         let same = one_kept a.kept room.kept a.keeps room.keeps in
-        both_ways (fits (trimmed T permitted a.kept) out) (ap (λ (kept : ℕ → Bool). fits (trimmed T permitted kept) out) same ∙ room.short) a.room
+        both_ways (tables_fit (trimmed T permitted a.kept) out) (ap (λ (kept : ℕ → Bool). tables_fit (trimmed T permitted kept) out) same ∙ room.short) a.room
 
-    one_answer : (counts other : ℕ × ℕ) (one two : Outputs) → Answered T domains permitted out counts one → Answered T domains permitted out other two → (counts ≡ other) × (one ≡ two)
+    one_answer : (counts other : ℕ × ℕ) (one two : Outputs) → WritesTables T domains permitted out counts one → WritesTables T domains permitted out other two → (counts ≡ other) × (one ≡ two)
     one_answer counts other one two a b =
         let same : trimmed T permitted a.kept ≡ trimmed T permitted b.kept = ap (trimmed T permitted) (one_kept a.kept b.kept a.keeps b.keeps) in
         let states : counts.0 ≡ other.0 = a.states ∙ ap (λ (U : Tables). U.states) same ∙ sym b.states in

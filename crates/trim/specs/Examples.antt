@@ -6,7 +6,8 @@ use Rattle.schema.specs.Tables.{Tables}
 use Rattle.trim.specs.Outcome.{NothingLeft}
 use Rattle.trim.specs.Trimmed.{trimmed}
 
--- a state with any number of children, under symbol 0 at state 1 and under symbol 1 at state 2; those two have no child and share a row
+-- a state with any number of children, under symbol 0 at state 1 and under symbol 1 at state 2;
+-- those two have no child and share a row
 abbrev pub two_leaves : Tables
 two_leaves = record {
   symbols = 2;
@@ -54,11 +55,13 @@ idle = record {
   row_table = 1 ∷ 255 ∷ 255 ∷ [];
 }
 
--- what is left of small schemas, where the kept states are given; a permitted transition to a kept state stays where its symbol is not live
+-- what is left of small schemas, where the kept states are given; a permitted transition to a kept
+-- state stays where its symbol is not live
 pub record SmallTrims : Type 0 where
   pub no_symbol : trimmed any_of_first (λ a. false) (λ q. (q == 0)) ≡ no_child
   pub all_of_book : trimmed book (λ a. true) (λ q. (q == 0) || (q == 1)) ≡ book
   pub second_symbol : trimmed two_leaves (λ a. (a == 1)) (λ q. (q == 0) || (q == 2)) ≡ one_leaf
   pub both_symbols : trimmed two_leaves (λ a. true) (λ q. (q == 0) || (q == 1) || (q == 2)) ≡ unshared
   pub idle_stays : trimmed idle (λ a. true) (λ q. (q == 0)) ≡ idle
-  pub book_without_pages : NothingLeft book zero_and_zero (λ a. false) (record { fault = Nothing; place = 0 })
+  pub book_without_pages :
+      NothingLeft book zero_and_zero (λ a. false) (record { fault = Nothing; place = 0 })

@@ -1,12 +1,10 @@
 //! Trimming: the schema over permitted symbols, without the states that no accepted tree needs.
 #![tactic(auto)]
 
-ghost use Rattle.std.specs.Prelude.{◌≡◌};
 ghost use Rattle.bits.specs.Bits.{bit};
 ghost use Rattle.schema.specs.Tables.{tables, sets};
-ghost use Rattle.trim.specs.Examples.{SmallTrims};
-ghost use Rattle.trim.specs.Law.{TrimmingLaw};
-ghost use Rattle.trim.specs.Outcome.{outputs, Outcome, OneTrimming};
+ghost use Rattle.trim.specs.Law.{TrimLaws};
+ghost use Rattle.trim.specs.Outcome.{outputs, Outcome};
 
 use crate::tables::Outputs;
 use crate::trimming::Trimming;
@@ -19,9 +17,10 @@ mod kept;
 mod tables;
 mod trimming;
 
-/// Writes the schema over the permitted symbols, bit i for symbol i, at the fronts of the three outputs, and gives its state count and
-/// row count; or the refusal of the tables, `nothing` or `room`, and then the outputs are as they were.
-#[tactic(auto, using(crate::proofs::Law::trimming_law, crate::proofs::Small::small_trims, crate::proofs::Unique::one_trimming))]
+/// Writes the schema over the permitted symbols, bit i for symbol i, at the fronts of the three
+/// outputs, and gives its state count and row count; or the refusal of the tables, `nothing` or
+/// `room`, and then the outputs are as they were.
+#[tactic(auto, using(crate::proofs::Law::trim_laws))]
 pub fn trim<D: Domain>(
     schema: &Schema<D>,
     permitted: u32,
@@ -29,10 +28,10 @@ pub fn trim<D: Domain>(
     states: &mut [u8],
     rows: &mut [u8],
 ) -> Result<(usize, usize), Refusal>
-    ensures outcome { Outcome (tables schema.now) (sets D.Domain.holds schema.now) (bit permitted) (outputs transitions.old states.old rows.old) result (outputs transitions.new states.new rows.new) }
-    ensures one { OneTrimming }
-    ensures law { TrimmingLaw }
-    ensures examples { SmallTrims }
+    ensures outcome { Outcome (tables schema.now) (sets D.Domain.holds schema.now) (bit permitted)
+        (outputs transitions.old states.old rows.old) result
+        (outputs transitions.new states.new rows.new) }
+    ensures laws { TrimLaws }
 {
     let tested = Tested::new(schema)?;
     let trimming = Trimming::new(&tested, u64::from(permitted))?;

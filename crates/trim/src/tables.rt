@@ -1,8 +1,8 @@
 //! The trimmed tables, written state by state.
 ghost use Rattle.std.specs.Prelude.{◌≡◌, ◌+◌, ◌≤◌, length, true};
 ghost use Rattle.trim.specs.Lent.{held, loans, LinesFit, with_lines};
-ghost use Rattle.trim.specs.Outcome.{fits, written};
-ghost use Rattle.trim.specs.Trimming.{tables_of, transition_line_of, row_line_of, row_lines_of, trimmed_of};
+ghost use Rattle.trim.specs.Outcome.{tables_fit, written};
+ghost use Rattle.trim.specs.Trimming.{old_tables, transition_line_of, row_line_of, row_lines_of, new_tables};
 
 use crate::trimming::Trimming;
 use schema::tables::STATE_BYTES;
@@ -18,7 +18,7 @@ pub(crate) struct Outputs<'a> {
 impl<D> Trimming<'_, '_, D> {
     /// Writes a state's transitions.
     fn write_transitions(&self, state: u8, line: &mut [u8])
-        requires { length line.old ≡ (tables_of self.now).symbols }
+        requires { length line.old ≡ (old_tables self.now).symbols }
         ensures { line.new ≡ transition_line_of self.now state }
     {
         for (symbol, byte) in line.iter_mut().enumerate() {
@@ -28,7 +28,7 @@ impl<D> Trimming<'_, '_, D> {
 
     /// Writes a row: its end mark and its entries.
     fn write_row(&self, state: u8, row: u8, line: &mut [u8])
-        requires { length line.old ≡ (tables_of self.now).symbols + 1 }
+        requires { length line.old ≡ (old_tables self.now).symbols + 1 }
         ensures { line.new ≡ row_line_of self.now state row }
     {
         line[0] = self.end_mark(state, row);
@@ -43,7 +43,7 @@ impl<D> Trimming<'_, '_, D> {
         ensures { lines.new ≡ row_lines_of self.now state }
     {
         let width = self.symbols() + 1;
-        // Tried with chunks_exact_mut: the goal `returns` stays open, since nothing is known of the parts once they are given back.
+        // by index, since nothing is known of chunks once they are given back
         for row in 0..self.row_count(state) {
             let start = row as usize * width;
             self.write_row(state, row, &mut lines[start..start + width]);
@@ -68,24 +68,35 @@ impl<D> Trimming<'_, '_, D> {
         self.write_rows(state, &mut outputs.rows[start..start + length]);
     }
 
-    /// Whether the trimmed tables have room in the outputs.
-    pub(crate) fn has_room(&self, outputs: &Outputs) -> bool
-        ensures { result ≡ fits (trimmed_of self.now) (held outputs.now) }
+    /// How long the trimmed tables are: the transitions, the states and the rows.
+    fn lengths(&self) -> (usize, usize, usize)
+        ensures transitions { result.0 ≡ length (new_tables self.now).transitions }
+        ensures states { result.1 ≡ length (new_tables self.now).state_table }
+        ensures rows { result.2 ≡ length (new_tables self.now).row_table }
     {
         let symbols = self.symbols();
         let (states, rows) = self.counts();
-        states * symbols <= outputs.transitions.len()
-            && STATE_BYTES * states <= outputs.states.len()
-            && rows * (symbols + 1) <= outputs.rows.len()
+        (states * symbols, STATE_BYTES * states, rows * (symbols + 1))
     }
 
-    /// Writes the trimmed tables at the fronts of the outputs, and gives their state count and row count.
+    /// Whether the trimmed tables have room in the outputs.
+    pub(crate) fn has_room(&self, outputs: &Outputs) -> bool
+        ensures { result ≡ tables_fit (new_tables self.now) (held outputs.now) }
+    {
+        let (transitions, states, rows) = self.lengths();
+        transitions <= outputs.transitions.len()
+            && states <= outputs.states.len()
+            && rows <= outputs.rows.len()
+    }
+
+    /// Writes the trimmed tables at the fronts of the outputs, and gives their state count and row
+    /// count.
     pub(crate) fn write_tables(&self, outputs: &mut Outputs) -> (usize, usize)
-        requires { fits (trimmed_of self.now) (held outputs.old) ≡ true }
-        ensures states { result.0 ≡ (trimmed_of self.now).states }
-        ensures rows { result.1 ≡ (trimmed_of self.now).rows }
+        requires { tables_fit (new_tables self.now) (held outputs.old) ≡ true }
+        ensures states { result.0 ≡ (new_tables self.now).states }
+        ensures rows { result.1 ≡ (new_tables self.now).rows }
         ensures lent { loans outputs.new ≡ loans outputs.old }
-        ensures after { held outputs.new ≡ written (trimmed_of self.now) (held outputs.old) }
+        ensures after { held outputs.new ≡ written (new_tables self.now) (held outputs.old) }
     {
         for state in 0..self.states() {
             if self.keeps(state) {

@@ -5,5 +5,5 @@ use Rattle.notation.proofs.words.Words.bytes.Goals as goal
 
 pub returns : goal.returns
 returns c =
-    let taken : c.word.ensures.0 ≡ Some c.in_ok-word.field-0 = search rules in
-    (Some c.in_ok-word.field-0, subst (λ w. split_whitespace_steps c.args.self.now.left w c.word.new.self.left) taken c.word.ensures.1, c.list.ensures)
+    let taken : c.word.ensures.0 ≡ Some c.in_ok-word.word = search rules in
+    (Some c.in_ok-word.word, subst (λ w. split_whitespace_steps c.args.self.now.left w c.word.new.self.left) taken c.word.ensures.1, c.list.ensures)

@@ -6,8 +6,8 @@ use Rattle.schema.specs.Tables.{tables}
 use Rattle.schema.proofs.Sizes.{sized, sound_tables}
 use Rattle.trim.proofs.trimming.Trimming.new.Goals as goal
 
-pub returns-then-not-has_member : goal.returns-then-not-has_member
-returns-then-not-has_member g c =
+pub returns-then-not-has_member-clause-nothing : goal.returns-then-not-has_member-clause-nothing
+returns-then-not-has_member-clause-nothing g c =
     let t = c.args.tested.now in
     let T = tables t.measured.schema in
     let some : 0 < T.states = omega (arith, (sized T t.measured.sized).states.from) in
@@ -17,8 +17,8 @@ returns-then-not-has_member g c =
       is = c.at.ensures;
     }
 
-pub returns : goal.returns
-returns g c =
+pub returns-clause-kept : goal.returns-clause-kept
+returns-clause-kept g c =
     let t = c.args.tested.now in
     let T = tables t.measured.schema in
     let start = sym c.if-not-has_member.ensures in

@@ -1,7 +1,7 @@
 -- Line by line. Assumes nothing.
 use Rattle.std.proofs.Common.{◌≡◌, ◌+◌, ◌*◌, ◌≤◌, length, sym, ◌∙◌, arith}
 use Rattle.schema.specs.Tables.{row_count}
-use Rattle.trim.specs.Trimming.{tables_of, permitted_of, kept_of, number_of, rows_before_of, row_lines_of}
+use Rattle.trim.specs.Trimming.{old_tables, permitted_of, kept_of, new_number_of, rows_before_of, row_lines_of}
 use Rattle.schema.proofs.Sizes.{sound_tables}
 use Rattle.trim.proofs.Bytes.{first_length}
 use Rattle.trim.proofs.Sound.{rows_few}
@@ -11,7 +11,7 @@ use Rattle.trim.proofs.trimming.Trimming.write_lines.Goals.{After-row_count}
 
 -- where the state's rows go, and how long they are
 record Rows (g : given.Over) (c : After-row_count g) : Type 0 where
-  at : c.rows_before-first.result * (c.symbols-symbols.result + 1) ≡ rows_before_of c.args.self.now c.args.state * ((tables_of c.args.self.now).symbols + 1)
+  at : c.rows_before-first.result * (c.symbols-symbols.result + 1) ≡ rows_before_of c.args.self.now c.args.state * ((old_tables c.args.self.now).symbols + 1)
   long : c.row_count.result * (c.symbols-symbols.result + 1) ≡ length (row_lines_of c.args.self.now c.args.state)
 
 rows : (g : given.Over) (c : After-row_count g) → Rows g c
@@ -22,21 +22,21 @@ rows g c =
     let symbols = c.symbols-symbols.ensures in
     record {
       at = λ i. before i * (symbols i + 1);
-      long = (λ i. count i * (symbols i + 1)) ∙ sym (first_length (tables_of t) (permitted_of t) (kept_of t) c.args.state (row_count (tables_of t) c.args.state));
+      long = (λ i. count i * (symbols i + 1)) ∙ sym (first_length (old_tables t) (permitted_of t) (kept_of t) c.args.state (row_count (old_tables t) c.args.state));
     }
 
 pub slice_bounds-write_transitions-end : goal.slice_bounds-write_transitions-end
 slice_bounds-write_transitions-end g c =
     let symbols = c.symbols-symbols.ensures in
     let number = c.number-number.ensures in
-    let at : c.number-number.result * c.symbols-symbols.result ≡ number_of c.args.self.now c.args.state * (tables_of c.args.self.now).symbols = λ i. number i * symbols i in
+    let at : c.number-number.result * c.symbols-symbols.result ≡ new_number_of c.args.self.now c.args.state * (old_tables c.args.self.now).symbols = λ i. number i * symbols i in
     let room : c.number-number.result * c.symbols-symbols.result + c.symbols-symbols.result ≤ length c.args.outputs.now.transitions.now = omega (arith, at, symbols, c.requires.transitions) in
     room
 
 pub state_line-requires : goal.state_line-requires
 state_line-requires g c =
     let t = c.args.self.now in
-    let few = rows_few (tables_of t) (permitted_of t) (kept_of t) (sound_tables (tables_of t) t.tested.now.sound) c.args.state (omega (arith, c.requires.inside)) in
+    let few = rows_few (old_tables t) (permitted_of t) (kept_of t) (sound_tables (old_tables t) t.tested.now.sound) c.args.state (omega (arith, c.requires.inside)) in
     omega (arith, c.rows_before-first.ensures, few)
 
 pub rows_before-first-requires : goal.rows_before-first-requires

@@ -2,7 +2,7 @@
 use Rattle.std.proofs.Common.{◌≡◌, length, replicate, rules, refl}
 use Rattle.std.proofs.lemmas.Fn.{chained_keeps}
 use Rattle.std.proofs.lemmas.List.{replicate_more}
-use Rattle.notation.proofs.filled.filled.Goals as goal
+use Rattle.notation.proofs.memory.filled.Goals as goal
 
 pub returns-clause-items : goal.returns-clause-items
 returns-clause-items g c =

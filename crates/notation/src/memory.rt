@@ -1,8 +1,41 @@
-//! The three outputs of a trimming: lists of bytes that the trimmed tables are written into.
-use crate::filled::filled;
+//! What calls are lent, by how much of it there is to be: what scratch is filled with, and the
+//! three outputs of a trimming.
+ghost use Rattle.std.specs.Prelude.{◌≡◌, replicate, IfOk, vec_len};
+
 use crate::trouble::Trouble;
-use api::{Domain, Refusal, Schema};
+use api::{Cursor, Domain, Level, Refusal, RowPair, Schema, Spot};
 use std::alloc::Global;
+
+/// That many times the item.
+// by a closure, since nothing is known of what the clones of `vec!` are
+pub fn filled<'a, T: Copy>(heap: Global, count: usize, item: T) -> Result<Vec<T>, Trouble<'a>>
+    ensures length { IfOk result (λ v. vec_len v ≡ count) }
+    ensures items { IfOk result (λ v. v.items ≡ replicate count item) }
+{
+    let mut list = Vec::new(heap);
+    list.resize_with(count, || item)?;
+    Ok(list)
+}
+
+/// A row pair that no search has written.
+pub const SEARCH_PAIR: RowPair = RowPair {
+    row: 0,
+    watch: 0,
+    symbol: 0,
+    parent: 0,
+};
+
+/// A level of a check that no node has taken.
+pub const CHECK_LEVEL: Level<Cursor> = Level {
+    left: 0,
+    at: Cursor { state: 0, row: 0 },
+};
+
+/// A level of a document that no node has taken.
+pub const DOCUMENT_LEVEL: Level<Spot> = Level {
+    left: 0,
+    at: Spot::State(0),
+};
 
 /// How many bytes the state table has for each state.
 const STATE_BYTES: usize = 4;
@@ -14,7 +47,7 @@ pub struct Counts {
     pub rows: usize,
 }
 
-/// The outputs, each at its own length.
+/// The three outputs of a trimming, each at its own length.
 #[derive(Debug, Drop, PartialEq, Eq)]
 pub struct Outputs {
     pub transitions: Vec<u8>,
@@ -38,7 +71,8 @@ impl Outputs {
         })
     }
 
-    /// Trims a schema to the permitted symbols, bit i for symbol i, and gives the counts of the trimmed one.
+    /// Trims a schema to the permitted symbols, bit i for symbol i, and gives the counts of the
+    /// trimmed one.
     pub fn trim<D: Domain>(
         &mut self,
         schema: &Schema<D>,
@@ -54,7 +88,8 @@ impl Outputs {
         Ok(Counts { states, rows })
     }
 
-    /// Leaves of each output no more than the table at its front, by the counts of the trimmed schema.
+    /// Leaves of each output no more than the table at its front, by the counts of the trimmed
+    /// schema.
     pub fn shorten(&mut self, symbols: usize, counts: Counts) {
         let Counts { states, rows } = counts;
         self.transitions.truncate(states.saturating_mul(symbols));
