@@ -1,5 +1,5 @@
 -- The faults: which number and which layer each has. Assumes nothing.
-use Rattle.std.specs.Prelude.{◌≡◌, ℕ, ◌+◌, ◌-◌, ◌<◌, Bool, cond, ◌&&◌, List, [], ◌∷◌, length, nat_le, slice_index_or}
+use Rattle.std.specs.Prelude.{◌≡◌, ℕ, ◌+◌, ◌-◌, ◌<◌, List, [], ◌∷◌, length, slice_index_or}
 use Rattle.refusal.specs.declared.fault.Fault.{Fault}
 use Rattle.refusal.specs.declared.fault.Fault.TheVariants.{Size, State, Row, Domain, Range, Symbols, Busy, Worn, Foreign, Ousted, Schemas, Steps, Early, Scratch, Short, Number, Symbol, Deep, Rest, Room, Nothing}
 use Rattle.refusal.specs.declared.fault.Layer.{Layer}
@@ -41,10 +41,26 @@ pub record Numbered : Type 0 where
   pub own : (f : Fault) → slice_index_or faults (number f - 1) Size ≡ f
   pub used : (n : ℕ) → n < 21 → number (slice_index_or faults n Size) ≡ n + 1
 
--- low ≤ n ≤ high
-abbrev pub within : ℕ → ℕ → ℕ → Bool
-within low high n = nat_le low n && nat_le n high
-
--- a fault lies in the area for 7 to 14, in the bytes for 15 to 20, and otherwise in the tables
+-- the layer that each fault lies in
 abbrev pub layer : Fault → Layer
-layer f = cond (within 7 14 (number f)) Area (cond (within 15 20 (number f)) Bytes Tables)
+layer Size = Tables
+layer State = Tables
+layer Row = Tables
+layer Domain = Tables
+layer Range = Tables
+layer Symbols = Tables
+layer Busy = Area
+layer Worn = Area
+layer Foreign = Area
+layer Ousted = Area
+layer Schemas = Area
+layer Steps = Area
+layer Early = Area
+layer Scratch = Area
+layer Short = Bytes
+layer Number = Bytes
+layer Symbol = Bytes
+layer Deep = Bytes
+layer Rest = Bytes
+layer Room = Bytes
+layer Nothing = Tables

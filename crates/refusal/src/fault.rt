@@ -65,6 +65,13 @@ impl Fault {
         ensures { result ≡ layer self }
     {
         match self {
+            Fault::Size
+            | Fault::State
+            | Fault::Row
+            | Fault::Domain
+            | Fault::Range
+            | Fault::Symbols
+            | Fault::Nothing => Layer::Tables,
             Fault::Busy
             | Fault::Worn
             | Fault::Foreign
@@ -79,7 +86,6 @@ impl Fault {
             | Fault::Deep
             | Fault::Rest
             | Fault::Room => Layer::Bytes,
-            _ => Layer::Tables,
         }
     }
 }
