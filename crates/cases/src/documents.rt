@@ -5,7 +5,8 @@ use crate::reply::Reply;
 use crate::trees::AskedOfTwo;
 use crate::trims::{FILLING, is_as_found};
 use api::{
-    Area, Cursor, Domain, LEVELS, Level, Numbers, Refusal, RowPair, Schema, Spot, check, document,
+    Area, Cursor, Domain, LEVELS, Level, NodeKey, Numbers, Refusal, RowPair, Schema, check,
+    document,
 };
 use notation::memory::{CHECK_LEVEL, DOCUMENT_LEVEL, SEARCH_PAIR, filled};
 use notation::trouble::Trouble;
@@ -17,7 +18,7 @@ use notation::words::Words;
 pub struct Document {
     claim: Numbers,
     scratch: Vec<RowPair>,
-    spots: Vec<Level<Spot>>,
+    spots: Vec<Level<NodeKey>>,
     levels: Vec<Level<Cursor>>,
     output: Vec<u8>,
 }

@@ -29,10 +29,3 @@ module _ (A B : Automaton) {p q : ℕ} {e : Listed} (f : Context A B p q e) (v :
   -- and the children before and after are those for the symbols before and after the first such symbol
   pub context_sides : (u x : List ℕ) → w ≡ u ++ e.symbol ∷ x → (Holds e.symbol u → ⊥) → (word f.before ≡ u) × (word f.after ≡ x)
   context_sides u x is lacks = one_parting e.symbol (word f.before) (word f.after) u x f.first lacks (context_says.1 ∙ is)
-
--- there is one context, by its value and its children
-pub one_context : (A B : Automaton) (p q : ℕ) (e : Listed) (f g : Context A B p q e) → (f.value ≡ g.value) × (f.before ≡ g.before) × (f.after ≡ g.after)
-one_context A B p q e f g =
-    let says = context_says A B f g.value (word g.before ++ e.symbol ∷ word g.after) g.on_path in
-    let sides = context_sides A B f g.value (word g.before ++ e.symbol ∷ word g.after) g.on_path (word g.before) (word g.after) refl g.first in
-    (says.0, one_samples A p f.before g.before sides.0 f.samples_before g.samples_before, one_samples A p f.after g.after sides.1 f.samples_after g.samples_after)

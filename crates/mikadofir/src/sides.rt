@@ -2,7 +2,8 @@
 use crate::answers::{Answer, Stepped, Written};
 use crate::domains::Book;
 use api::{
-    Area, Cursor, LEVELS, Level, Numbers, ROW_PAIRS, RowPair, Schema, Spot, check, document, step,
+    Area, Cursor, LEVELS, Level, NodeKey, Numbers, ROW_PAIRS, RowPair, Schema, check, document,
+    step,
 };
 use notation::answers::Truth;
 use notation::memory::{CHECK_LEVEL, DOCUMENT_LEVEL, SEARCH_PAIR, filled};
@@ -15,7 +16,7 @@ use std::fmt;
 #[derive(Drop)]
 pub struct Scratch {
     row_pairs: Vec<RowPair>,
-    spots: Vec<Level<Spot>>,
+    spots: Vec<Level<NodeKey>>,
     levels: Vec<Level<Cursor>>,
 }
 

@@ -3,7 +3,7 @@
 ghost use Rattle.std.specs.Prelude.{◌≡◌, replicate, IfOk, vec_len};
 
 use crate::trouble::Trouble;
-use api::{Cursor, Domain, Level, Refusal, RowPair, Schema, Spot};
+use api::{Cursor, Domain, Level, NodeKey, Refusal, RowPair, Schema};
 use std::alloc::Global;
 
 /// That many times the item.
@@ -32,9 +32,9 @@ pub const CHECK_LEVEL: Level<Cursor> = Level {
 };
 
 /// A level of a document that no node has taken.
-pub const DOCUMENT_LEVEL: Level<Spot> = Level {
+pub const DOCUMENT_LEVEL: Level<NodeKey> = Level {
     left: 0,
-    at: Spot::State(0),
+    at: NodeKey::State(0),
 };
 
 /// How many bytes the state table has for each state.

@@ -31,5 +31,5 @@ returns g c = λ ready space d.
       long,
       omega (arith, long, d.bytes, c.if-size-gt-LONGEST.false),
       omega (arith, long, d.bytes, c.if-size-gt-LONGEST.false, c.if-bytes-size.false),
-      c.bytes-2-1.given.1.1 (sym added.lent) ∙ added.written.after,
+      grind (arith, sym added.lent, added.written.after),
     )
