@@ -31,7 +31,8 @@ impl<'i, 'p, S: Copy> Reader<'i, 'p, S> {
     /// A reader at the input's first byte, where the root comes next. Each node takes a level of
     /// the pile while the reader is in it.
     pub fn new(input: &'i [u8], levels: Pile<'p, Level<S>>) -> Reader<'i, 'p, S>
-        ensures { result ≡ record { read = []; left = input.now; fresh = true; levels = levels.entry } }
+        ensures { result ≡
+            record { read = []; left = input.now; fresh = true; levels = levels.entry } }
     {
         Reader {
             input,

@@ -62,7 +62,8 @@ impl<D: Domain> Tested<'_, D> {
     /// Whether a state is not in the set yet, and is found over it.
     fn is_new(&self, state: u8, live: u64, permitted: u64) -> bool
         ensures { IsState self.now state →
-            Decides result (NewlyFound (meaning_over permitted D.Domain.holds self.now) (bit live) state) }
+            Decides result
+            (NewlyFound (meaning_over permitted D.Domain.holds self.now) (bit live) state) }
     {
         !has_member(live, state) && self.is_found(state, live, permitted)
     }
@@ -102,15 +103,18 @@ impl<D: Domain> Tested<'_, D> {
 
     /// The live states, and the rank of each.
     pub fn ranks(&self) -> Ranks
-        ensures { Ranked (meaning D.Domain.holds self.now) (states_of self.now) result.live result.rank }
+        ensures { Ranked (meaning D.Domain.holds self.now) (states_of self.now)
+            result.live result.rank }
     {
         self.ranks_over(ALL_SYMBOLS)
     }
 
     /// The states that are live over the permitted symbols, one a bit.
     pub fn live_over(&self, permitted: u64) -> u64
-        ensures live { LiveMask (meaning_over permitted D.Domain.holds self.now) (states_of self.now) result }
-        ensures ranks { RankMask (meaning_over permitted D.Domain.holds self.now) (states_of self.now) result }
+        ensures live { LiveMask
+            (meaning_over permitted D.Domain.holds self.now) (states_of self.now) result }
+        ensures ranks { RankMask
+            (meaning_over permitted D.Domain.holds self.now) (states_of self.now) result }
     {
         self.ranks_over(permitted).live
     }
@@ -129,7 +133,8 @@ impl<D: Domain> Tested<'_, D> {
 #[tactic(auto, using(crate::proofs::Unique::live_laws))]
 pub fn live<D: Domain>(schema: &Schema<D>) -> Result<u64, Refusal>
     ensures answer { LiveAnswer (tables schema.now) (sets D.Domain.holds schema.now) result }
-    ensures ranks { IfOk result (RankMask (automaton_of D.Domain.holds schema.now) schema.now.states) }
+    ensures ranks { IfOk result
+        (RankMask (automaton_of D.Domain.holds schema.now) schema.now.states) }
     ensures laws { LiveLaws }
 {
     let tested = Tested::new(schema)?;

@@ -15,7 +15,8 @@ use domain::domain::Domain;
 impl<D: Domain> Tested<'_, D> {
     /// Whether a symbol leads into a set of states.
     fn leads_into(&self, state: u8, symbol: u8, states: u64) -> bool
-        ensures { result ≡ passes ((meaning D.Domain.holds self.now).next state symbol) (bit states) }
+        ensures { result ≡
+            passes ((meaning D.Domain.holds self.now).next state symbol) (bit states) }
     {
         self.next_state(state, symbol)
             .is_some_and(|next| has_member(states, next))

@@ -40,7 +40,8 @@ impl<D: Domain, W: Watcher> Question<'_, '_, D, W> {
 
     /// The pair that a symbol of the set leads to from a pair, which is the entry `parent`.
     fn next_pair(&self, pair: RowPair, symbol: u8, parent: u16) -> Option<RowPair>
-        ensures { result ≡ next_pair_of D.Domain.holds W.Watcher.watching self.now pair symbol parent }
+        ensures { result ≡
+            next_pair_of D.Domain.holds W.Watcher.watching self.now pair symbol parent }
     {
         if !has_member(self.symbols, symbol) {
             return None;
