@@ -4,6 +4,7 @@ ghost use Rattle.codec.specs.Encoding.{children_bytes};
 ghost use Rattle.codec.specs.Trees.{Children, word as word_of};
 ghost use Rattle.bits.specs.Bits.{bit};
 ghost use Rattle.schema.specs.Automata.{Automaton, passes};
+ghost use Rattle.schema.specs.declared.tables.TheConstants.{STATES};
 ghost use Rattle.schema.specs.Live.{Live, Rank, Ranked};
 ghost use Rattle.schema.specs.Meaning.{meaning, states_of, IsState};
 ghost use Rattle.search.specs.Sequences.{Sought, Shortest};
@@ -54,7 +55,7 @@ fn is_below(ranks: &Ranks, rank: u8, state: u8) -> bool
 
 /// The states of a rank below this one.
 fn states_below(ranks: &Ranks, rank: u8) -> u64
-    ensures { (A : Automaton) (n s : ℕ) → Ranked A n ranks.now.live ranks.now.rank → s < 64 →
+    ensures { (A : Automaton) (n s : ℕ) → Ranked A n ranks.now.live ranks.now.rank → s < STATES →
         Decides (bit result s)
         ((bit ranks.now.live s ≡ true) × ((m : ℕ) × Rank A s m × (m < rank))) }
 {
