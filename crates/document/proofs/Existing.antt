@@ -22,9 +22,9 @@ use Rattle.compare.specs.Breaking.{Broken}
 use Rattle.compare.specs.Invariant.{StatePath, Reached}
 use Rattle.compare.specs.Pairs.{start}
 use Rattle.document.specs.Documents.{OnPath, LeadsTo, Built, HasDocument}
-use Rattle.document.specs.Contexts.{filled}
 use Rattle.samples.specs.Samples.{LeadsLower, LowerSequence, SampleSequence, Sample}
 use Rattle.samples.proofs.Growing.{LeadsLive, LeadsSampled, SampledChildren, gather, one_rank}
+use Rattle.document.proofs.Filling.{filled}
 use Rattle.document.proofs.Splitting.{end_with, context_with, holds_none, filled_built, sides}
 use Rattle.search.specs.Paths.{PathBack}
 use Rattle.search.proofs.Paths.{found_there, one_word, word_parent}

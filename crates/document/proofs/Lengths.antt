@@ -6,10 +6,11 @@ use Rattle.codec.specs.Numbers.{number_bytes}
 use Rattle.codec.specs.Trees.{Tree, word}
 use Rattle.schema.specs.Automata.{Automaton}
 use Rattle.compare.specs.declared.pairs.Listed.{Listed}
-use Rattle.document.specs.Contexts.{Context, filled, bytes_before, bytes_after}
+use Rattle.document.specs.Contexts.{Context, bytes_before, bytes_after}
 use Rattle.samples.specs.declared.size.TheConstants.{TOO_LONG}
 use Rattle.samples.specs.Kept.{needed}
 use Rattle.samples.proofs.Lengths.{length_three}
+use Rattle.document.proofs.Filling.{filled}
 use Rattle.document.proofs.Splitting.{filled_bytes}
 
 -- what was counted up to TOO_LONG may be added to a number and counted again

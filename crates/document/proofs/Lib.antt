@@ -2,6 +2,7 @@ pub mod Accepting
 pub mod Around
 pub mod Calling
 pub mod Existing
+pub mod Filling
 pub mod Finding
 pub mod Laws
 pub mod Lengths

@@ -12,7 +12,7 @@ use Rattle.search.specs.Paths.{PathBack}
 use Rattle.search.proofs.Paths.{Onward, onward_path, path_through}
 use Rattle.compare.specs.Listing.{pair_links}
 use Rattle.document.specs.Documents.{PairPath, Built, DocumentOf}
-use Rattle.document.specs.Contexts.{Split}
+use Rattle.document.proofs.Filling.{Split}
 use Rattle.document.proofs.Splitting.{built_splits}
 
 -- the last entry on a path that begins at one

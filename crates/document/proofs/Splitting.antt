@@ -12,10 +12,11 @@ use Rattle.compare.specs.declared.pairs.Listed.{Listed}
 use Rattle.compare.specs.declared.phase.Kind.{Kind}
 use Rattle.compare.specs.declared.phase.Kind.TheVariants.{Value, Content}
 use Rattle.document.specs.Documents.{AtEnd, OnPath, LeadsTo, Built, HoldsPart}
-use Rattle.document.specs.Contexts.{followed_by, Context, filled, bytes_before, bytes_after, Split}
+use Rattle.document.specs.Contexts.{Context, bytes_before, bytes_after}
 use Rattle.samples.specs.Samples.{Samples}
 use Rattle.samples.proofs.Lengths.{many_symbols}
 use Rattle.samples.proofs.Growing.{Inside, HaveRoots, LeadsLive, SampledChildren, sampled_children, live_children, sample_children}
+use Rattle.document.proofs.Filling.{followed_by, filled, Split}
 
 -- the symbols of children with others after them
 pub word_followed : (cs ds : Children) → word (followed_by cs ds) ≡ word cs ++ word ds

@@ -20,12 +20,13 @@ use Rattle.compare.specs.Listing.{pair_links}
 use Rattle.document.specs.declared.trace.Step.{Step}
 use Rattle.samples.specs.declared.node.NodeKey.{NodeKey}
 use Rattle.document.specs.Documents.{AtEnd, Built, DocumentOf}
-use Rattle.document.specs.Contexts.{bytes_before, bytes_after, filled}
+use Rattle.document.specs.Contexts.{bytes_before, bytes_after}
 use Rattle.document.specs.Steps.{EndBytes, PathStep, StepsBack, Traced, TracesBack, all_before, level_at, levels_of, all_after}
 use Rattle.document.specs.Nodes.{NodeOrNone}
 use Rattle.samples.specs.declared.size.TheConstants.{TOO_LONG}
 use Rattle.samples.specs.Kept.{needed}
 use Rattle.samples.proofs.Growing.{SampledChildren}
+use Rattle.document.proofs.Filling.{filled}
 use Rattle.document.proofs.Lengths.{needed_filled, capped_right}
 use Rattle.document.proofs.Onward.{document_onward, document_splits, document_of}
 use Rattle.document.proofs.Splitting.{filled_built, filled_bytes, end_with}

@@ -1,21 +1,15 @@
 -- Contexts: nodes on the path before its end, where one child goes on and the others are samples;
 -- and the bytes around that child. Assumes nothing.
-use Rattle.std.specs.Prelude.{◌≡◌, ℕ, ◌+◌, List, ◌∷◌, ◌++◌, length, min}
+use Rattle.std.specs.Prelude.{ℕ, ◌+◌, List, ◌∷◌, ◌++◌, length, min}
 use Rattle.codec.specs.Encoding.{children_bytes}
 use Rattle.codec.specs.Numbers.{number_bytes}
-use Rattle.codec.specs.Trees.{Tree, node, Children, none, child, word}
+use Rattle.codec.specs.Trees.{Children, word}
 use Rattle.schema.specs.Automata.{Automaton}
 use Rattle.search.specs.Watching.{Holds}
 use Rattle.compare.specs.declared.pairs.Listed.{Listed}
-use Rattle.compare.specs.declared.phase.Kind.{Kind}
-use Rattle.document.specs.Documents.{OnPath, LeadsTo, Built}
+use Rattle.document.specs.Documents.{OnPath, LeadsTo}
 use Rattle.samples.specs.declared.size.TheConstants.{TOO_LONG}
 use Rattle.samples.specs.Samples.{Samples}
-
--- children, and others after them
-abbrev pub followed_by : Children → Children → Children
-followed_by none ds = ds
-followed_by (child a t cs) ds = child a t (followed_by cs ds)
 
 module _ (A B : Automaton) where
   -- a node from whose states p and q the path goes on to a listed pair: its value, and the children
@@ -31,10 +25,6 @@ module _ (A B : Automaton) where
     pub samples_after : Samples A p after
 
   module _ {p q : ℕ} {e : Listed} (f : Context p q e) where
-    -- the tree of a context with the part that goes on
-    abbrev pub filled : Tree → Tree
-    filled part = node f.value (followed_by f.before (child e.symbol part f.after))
-
     -- the bytes before the part's: value, child count, the children before, and the symbol
     abbrev pub bytes_before : List ℕ
     bytes_before =
@@ -49,11 +39,3 @@ module _ (A B : Automaton) where
   -- how many bytes there are before and after the part, up to TOO_LONG
   abbrev pub context_bytes : {p q : ℕ} {e : Listed} → Context p q e → ℕ
   context_bytes f = min (length (bytes_before f) + length (bytes_after f)) TOO_LONG
-
-  -- a tree built along a path that goes on to the listed pair splits into a context and the part
-  -- built from there on
-  pub record Split (k : Kind) (p q : ℕ) (e : Listed) (path : List Listed) (t : Tree) : Type 0 where
-    pub context : Context p q e
-    pub part : Tree
-    pub built : Built A B k e.first e.second path part
-    pub whole : t ≡ filled context part
