@@ -7,7 +7,6 @@ use Rattle.compare.specs.declared.pairs.Listed.{Listed}
 use Rattle.document.specs.Documents.{OnPath}
 use Rattle.document.specs.Contexts.{Context}
 use Rattle.document.proofs.Splitting.{holds_here, holds_later}
-use Rattle.samples.proofs.Unique.{one_samples}
 use Rattle.document.proofs.Unique.{one_on_path}
 
 -- there is one path to part a sequence at the first such symbol

@@ -95,8 +95,9 @@ fn write_document<D: Domain>(
 ) -> Result<usize, Refusal>
     ensures { other_counts (view area.now) (tables_of first.now) (tables_of second.now) ≡ None →
         LEVELS ≤ length levels.old →
-        DocumentAnswer (meaning D.Domain.holds first.now) (meaning D.Domain.holds second.now) (view area.now)
-        bytes.old result bytes.new }
+        let A = meaning D.Domain.holds first.now in
+        let B = meaning D.Domain.holds second.now in
+        DocumentAnswer A B (view area.now) bytes.old result bytes.new }
 {
     let none = refusal(area, Fault::Schemas);
     let Some(broken) = broken_pair(area) else {

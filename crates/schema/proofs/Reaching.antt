@@ -1,5 +1,5 @@
 -- The rows of a state of a tested schema, gathered from one of them along the symbols of a set. Assumes nothing.
-use Rattle.std.proofs.Common.{◌≡◌, ℕ, ◌<◌, Bool, true, false, ◌&&◌, ◌||◌, eqb, ltb, List, [], refl, arith}
+use Rattle.std.proofs.Common.{◌≡◌, ℕ, ◌<◌, Bool, false, ◌&&◌, ◌||◌, eqb, ltb, [], refl, arith}
 use Rattle.bits.specs.Bits.{bit, LowestMember, without}
 use Rattle.schema.specs.declared.tested.Tested.{Tested}
 use Rattle.schema.specs.Automata.{Automaton}

@@ -1,5 +1,5 @@
 -- Rows are done until none is left. Assumes nothing.
-use Rattle.std.proofs.Common.{◌≡◌, ℕ, ◌<◌, subst, arith}
+use Rattle.std.proofs.Common.{ℕ, ◌<◌, subst, arith}
 use Rattle.bits.specs.Bits.{bit}
 use Rattle.schema.specs.Meaning.{IsState, meaning, tables_of}
 use Rattle.schema.specs.Rows.{RowsReachedFrom}
