@@ -9,13 +9,13 @@ use Rattle.schema.specs.Automata.{Automaton}
 use Rattle.samples.specs.declared.node.NodeKey.{NodeKey}
 use Rattle.compare.specs.declared.pairs.Listed.{Listed}
 use Rattle.document.specs.Contexts.{bytes_before, bytes_after}
-use Rattle.document.specs.Steps.{PathStep, level_at, levels_of, all_before, all_after}
+use Rattle.document.specs.Steps.{PathStep, path_level, levels_of, all_before, all_after}
 
 module _ {A B : Automaton} {es : List Listed} where
   -- the step at a place of the path
   pub record At (steps : List (PathStep A B es)) (i : ℕ) (l : Level NodeKey) : Type 0 where
     pub step : PathStep A B es
-    pub level : l ≡ level_at step.place
+    pub level : l ≡ path_level step
     pub rest : drop i steps ≡ step ∷ drop (i + 1) steps
 
   pub step_at : (steps : List (PathStep A B es)) (i : ℕ) (l : Level NodeKey) → slice_get (levels_of steps) i ≡ Some l → At steps i l
@@ -23,7 +23,7 @@ module _ {A B : Automaton} {es : List Listed} where
       let s = by steps i l at in
       record { step = s.0; level = s.1; rest = drop_some steps i s.0 s.2 }
     where
-      by : (steps : List (PathStep A B es)) (i : ℕ) (l : Level NodeKey) → slice_get (levels_of steps) i ≡ Some l → (s : PathStep A B es) × (l ≡ level_at s.place) × (slice_get steps i ≡ Some s)
+      by : (steps : List (PathStep A B es)) (i : ℕ) (l : Level NodeKey) → slice_get (levels_of steps) i ≡ Some l → (s : PathStep A B es) × (l ≡ path_level s) × (slice_get steps i ≡ Some s)
       by [] zero l at = absurd (none-some _ at)
       by [] (suc i) l at = absurd (none-some _ at)
       by (s ∷ steps) zero l at = (s, sym (same_Some _ _ at), refl)
@@ -38,8 +38,8 @@ module _ {A B : Automaton} {es : List Listed} where
       (rest.0 ++ bytes_before A B s.context, ap (λ (l : List ℕ). l ++ bytes_before A B s.context) rest.1 ∙ append_assoc (all_before (drop i steps)) rest.0 (bytes_before A B s.context))
 
   -- with a step more at the front of the path
-  pub marks_more : (steps : List (PathStep A B es)) (s : PathStep A B es) → levels_of (steps ++ s ∷ []) ≡ levels_of steps ++ level_at s.place ∷ []
-  marks_more steps s = map-append (λ (p : PathStep A B es). level_at p.place) steps (s ∷ [])
+  pub marks_more : (steps : List (PathStep A B es)) (s : PathStep A B es) → levels_of (steps ++ s ∷ []) ≡ levels_of steps ++ path_level s ∷ []
+  marks_more steps s = map-append (path_level {A = A} {B = B} {es = es}) steps (s ∷ [])
 
   pub heads_more : (steps : List (PathStep A B es)) (s : PathStep A B es) → all_before (steps ++ s ∷ []) ≡ bytes_before A B s.context ++ all_before steps
   heads_more [] s = sym (append-nil (bytes_before A B s.context))

@@ -19,9 +19,10 @@ use Rattle.compare.specs.declared.phase.Kind.{Kind}
 use Rattle.compare.specs.Listing.{pair_links}
 use Rattle.document.specs.declared.trace.Step.{Step}
 use Rattle.samples.specs.declared.node.NodeKey.{NodeKey}
+use Rattle.samples.specs.declared.node.NodeKey.TheVariants.{Pair}
 use Rattle.document.specs.Documents.{AtEnd, Built, DocumentOf}
 use Rattle.document.specs.Contexts.{bytes_before, bytes_after}
-use Rattle.document.specs.Steps.{EndBytes, PathStep, StepsBack, Traced, TracesBack, all_before, level_at, levels_of, all_after}
+use Rattle.document.specs.Steps.{EndBytes, PathStep, StepsBack, Traced, TracesBack, all_before, levels_of, all_after}
 use Rattle.document.specs.Nodes.{NodeOrNone}
 use Rattle.samples.specs.declared.size.TheConstants.{TOO_LONG}
 use Rattle.samples.specs.Kept.{needed}
@@ -51,6 +52,10 @@ module _ (A B : Automaton) (k : Kind) (es : List Listed) (i : ℕ) (x : Listed) 
   ends_nowhere none y (node v cs) at b =
       let same : y ≡ x = same_Some _ _ (sym at ∙ there) in
       none v (word cs) (subst (λ (z : Listed). AtEnd A B k z.first z.second v (word cs)) same b.0)
+
+-- the key of a pair tells its place
+pair_place : (i j : ℕ) → ◌≡◌ {A = NodeKey} (Pair i) (Pair j) → i ≡ j
+pair_place i j same = cc
 
 -- four lists filled, with the middle two apart
 regrouped : (h hs p ts t : List ℕ) → h ++ ((hs ++ (p ++ ts)) ++ t) ≡ (h ++ hs) ++ (p ++ (ts ++ t))
@@ -97,8 +102,9 @@ module _ (A B : Automaton) (k : Kind) (es : List Listed) (i : ℕ) where
       }
 
   -- and goes on by steps
-  pub goes_back : (at size : ℕ) (levels : List (Level NodeKey)) (s : Step) → Point at size levels → StepsBack A B es at (Some s) → Point s.at (min (size + s.size) TOO_LONG) (levels ++ level_at at ∷ [])
-  goes_back at size levels s p (step, place, up, bytes) =
+  pub goes_back : (at size : ℕ) (levels : List (Level NodeKey)) (s : Step) → Point at size levels → StepsBack A B es at (Some s) → Point s.at (min (size + s.size) TOO_LONG) (levels ++ record { left = s.left; at = Pair at } ∷ [])
+  goes_back at size levels s p (step, level, up, bytes) =
+      let place : step.place ≡ at = pair_place step.place at (ap (λ (l : Level NodeKey). l.at) level) in
       let e = step.pair in
       let x = step.from in
       let f = step.context in
@@ -119,7 +125,7 @@ module _ (A B : Automaton) (k : Kind) (es : List Listed) (i : ℕ) where
             ∙ ap (λ (n : ℕ). min (n + (length (bytes_before A B f) + length (bytes_after A B f))) TOO_LONG) p.bytes ∙ sym (needed_filled A B f p.tree);
         steps = p.steps ++ step ∷ [];
         few = omega (arith, length_push p.steps step, p.few, up, before);
-        marked = ap (λ (ls : List (Level NodeKey)). ls ++ level_at at ∷ []) p.marked ∙ ap (λ (n : ℕ). levels_of p.steps ++ level_at n ∷ []) (sym place) ∙ sym (marks_more p.steps step);
+        marked = ap (λ (ls : List (Level NodeKey)). ls ++ record { left = s.left; at = Pair at } ∷ []) p.marked ∙ ap (λ (l : Level NodeKey). levels_of p.steps ++ l ∷ []) (sym level) ∙ sym (marks_more p.steps step);
         last = p.last;
         listed = p.listed;
         part = p.part;

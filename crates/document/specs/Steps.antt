@@ -4,7 +4,7 @@ use Rattle.std.specs.Prelude.{◌≡◌, ℕ, ◌<◌, ◌≤◌, List, [], ◌�
 use Rattle.std.specs.List.{slice_get}
 use Rattle.codec.specs.declared.item.Level.{Level}
 use Rattle.codec.specs.Encoding.{tree_bytes}
-use Rattle.codec.specs.Trees.{Tree}
+use Rattle.codec.specs.Trees.{Tree, word}
 use Rattle.schema.specs.Automata.{Automaton}
 use Rattle.samples.specs.declared.node.NodeKey.{NodeKey}
 use Rattle.samples.specs.declared.node.NodeKey.TheVariants.{Pair}
@@ -14,10 +14,6 @@ use Rattle.compare.specs.declared.phase.Kind.{Kind}
 use Rattle.document.specs.declared.trace.Step.{Step}
 use Rattle.document.specs.Documents.{Built, DocumentOf}
 use Rattle.document.specs.Contexts.{Context, context_bytes, bytes_before, bytes_after}
-
--- the level of the pair at a place of the list
-abbrev pub level_at : ℕ → Level NodeKey
-level_at i = record { left = 0; at = Pair i }
 
 -- the listed pair at i is led to by the listed pair x
 pub record LedFrom (es : List Listed) (i : ℕ) (e x : Listed) : Type 0 where
@@ -35,9 +31,14 @@ pub record PathStep (A B : Automaton) (es : List Listed) : Type 0 where
   pub context : Context A B from.first from.second pair
 
 module _ {A B : Automaton} {es : List Listed} where
+  -- the level of a step's pair: how many children its node has after the one that goes on, and the
+  -- pair's place
+  abbrev pub path_level : PathStep A B es → Level NodeKey
+  path_level s = record { left = length (word s.context.after); at = Pair s.place }
+
   -- the levels of the steps' pairs
   abbrev pub levels_of : List (PathStep A B es) → List (Level NodeKey)
-  levels_of steps = map (λ s. level_at s.place) steps
+  levels_of steps = map path_level steps
 
   -- the bytes of a step's node before the tree that the path goes on to, and after it
   abbrev pub step_before : PathStep A B es → List ℕ
@@ -58,11 +59,12 @@ module _ {A B : Automaton} {es : List Listed} where
   all_after (s ∷ steps) = step_after s ++ all_after steps
 
 module _ (A B : Automaton) (es : List Listed) where
-  -- one step back from the pair at i: where it comes to, and the bytes of the node there but for
-  -- the tree of the child that goes on; none, where no node goes on so
+  -- one step back from the pair at i: where it comes to, how many children the node there has after
+  -- the one that goes on, and its bytes but for that child's tree; none, where no node goes on so
   abbrev pub StepsBack : ℕ → Option Step → Type 0
   StepsBack i (Some s) =
-      (p : PathStep A B es) × (p.place ≡ i) × (s.at ≡ p.pair.parent) × (s.size ≡ context_bytes A B p.context)
+      (p : PathStep A B es) × (path_level p ≡ record { left = s.left; at = Pair i }) × (s.at ≡ p.pair.parent)
+      × (s.size ≡ context_bytes A B p.context)
   StepsBack i None = (e x : Listed) → LedFrom es i e x → Context A B x.first x.second e → ⊥
 
   -- the bytes needed for the tree that is built from the pair at i on, which is broken in a kind;

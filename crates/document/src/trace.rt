@@ -22,11 +22,12 @@ use samples::node::{Node, NodeKey};
 use samples::size::add;
 use search::slots::RowSlots;
 
-/// One step back: where the pair is that led here, and the bytes of its node but for the tree of
-/// the child that goes on.
+/// One step back: where the pair is that led here, how many children its node has after the one
+/// that goes on, and its bytes but for that child's tree.
 #[derive(Clone, Copy, Debug, PartialEq, Eq)]
 struct Step {
     at: usize,
+    left: u32,
     size: u32,
 }
 
@@ -100,7 +101,8 @@ impl<D: Domain> Counterexample<'_, '_, '_, '_, '_, D> {
         let node = self.node_on_path(from.first, pair.symbol, slots)?;
         let (before, after) = around(node.word.as_slice(), pair.symbol)?;
         let size = self.context_size(from.first, &node, pair.symbol, before, after);
-        Some(Step { at, size })
+        let left = after.len() as u32;
+        Some(Step { at, left, size })
     }
 
     /// How many bytes the tree at the end has, for the broken pair at a place of the list, up to
@@ -133,7 +135,7 @@ impl<D: Domain> Counterexample<'_, '_, '_, '_, '_, D> {
             let step = self.step(at, slots)?;
             size = add(size, step.size);
             levels.push(Level {
-                left: 0,
+                left: step.left,
                 at: NodeKey::Pair(at as u16),
             });
             at = step.at;

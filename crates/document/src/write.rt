@@ -14,7 +14,7 @@ ghost use Rattle.document.specs.Documents.{Built};
 ghost use Rattle.document.specs.Counterexamples.{SamplesIn, StepIn, TracedIn};
 ghost use Rattle.document.specs.Nodes.{Ready};
 ghost use Rattle.document.specs.PathNodes.{path_node_of};
-ghost use Rattle.document.specs.Steps.{level_at, levels_of, all_before, all_after, step_before, step_after};
+ghost use Rattle.document.specs.Steps.{path_level, levels_of, all_before, all_after, step_before, step_after};
 
 use crate::counterexample::{Counterexample, NODE_SYMBOLS, around};
 use codec::item::Level;
@@ -38,7 +38,7 @@ impl<D: Domain> Counterexample<'_, '_, '_, '_, '_, D> {
     /// The node from which the path goes on to the pair of a level.
     fn path_node(&self, level: Level<NodeKey>, slots: &mut RowSlots) -> Option<PathNode>
         ensures { Ready D.Domain.holds self.now →
-            (s : StepIn D.Domain.holds self.now) → level ≡ level_at s.place →
+            (s : StepIn D.Domain.holds self.now) → level ≡ path_level s →
             result ≡ Some (path_node_of s) }
     {
         let NodeKey::Pair(place) = level.at else {
@@ -115,6 +115,28 @@ impl<D: Domain> Counterexample<'_, '_, '_, '_, '_, D> {
         self.write_samples(path_node.state, after, levels, output)
     }
 
+    /// Writes the children after, for the node of a level; the node is looked for only where there
+    /// are such children.
+    fn write_level_after(
+        &self,
+        level: Level<NodeKey>,
+        slots: &mut RowSlots,
+        levels: &mut Pile<Level<NodeKey>>,
+        output: &mut Output,
+    ) -> Option<()>
+        ensures written { Ready D.Domain.holds self.now → STATES ≤ length levels.old.free →
+            Within output.old →
+            (s : StepIn D.Domain.holds self.now) → level ≡ path_level s →
+            Leaves (step_after s) levels.old.entries output.old result levels.new output.new }
+        ensures slots { slots_of levels.new ≡ slots_of levels.old }
+    {
+        if level.left == 0 {
+            return Some(());
+        }
+        let path_node = self.path_node(level, slots)?;
+        self.write_after(&path_node, levels, output)
+    }
+
     /// Writes what the nodes on the path have before the trees of the children that go on, from the
     /// first node down. The levels are those of the path's pairs, the last one's at the bottom.
     fn write_down(
@@ -150,8 +172,7 @@ impl<D: Domain> Counterexample<'_, '_, '_, '_, '_, D> {
         ensures slots { slots_of levels.new ≡ slots_of levels.old }
     {
         for index in 0..levels.len() {
-            let path_node = self.path_node(levels.read(index)?, slots)?;
-            self.write_after(&path_node, levels, output)?;
+            self.write_level_after(levels.read(index)?, slots, levels, output)?;
         }
         Some(())
     }

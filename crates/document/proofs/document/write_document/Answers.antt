@@ -12,7 +12,7 @@ use Rattle.compare.proofs.Views.{kept_of, many_of}
 use Rattle.document.specs.declared.counterexample.Counterexample.{Counterexample}
 use Rattle.document.specs.declared.document.TheConstants.{LEVELS}
 use Rattle.document.specs.Nodes.{Ready}
-use Rattle.document.specs.Steps.{PathStep, TracesBack, level_at}
+use Rattle.document.specs.Steps.{TracesBack, path_level}
 use Rattle.document.specs.Writing.{FoundDocument}
 use Rattle.document.proofs.Calling.{answered, inside_of, found_in, none_in}
 use Rattle.document.proofs.document.write_document.Goals as goal
@@ -57,6 +57,6 @@ returns g c = λ counts long.
     let es = entries_of b.pairs.now in
     let d = subst (λ (o : Option ℕ). TracesBack A B es b.kind b.index o c.trace.new.levels.entries) c.in-Some-trace.is (traced g at counts long) in
     let found : FoundDocument A B (view a) = record { path = d.path; tree = d.tree; document = found_in A B a b (of g at counts long) d.path d.tree d.document } in
-    let levels = ap length d.marked ∙ length-map d.steps (λ (s : PathStep A B es). level_at s.place) in
+    let levels = ap length d.marked ∙ length-map d.steps (path_level {A = A} {B = B} {es = es}) in
     let free : STATES ≤ length c.trace.new.levels.free = omega (arith, long, c.trace.ensures.slots, ap length c.new-levels.ensures.empty, ap length c.new-levels.ensures.over, levels, d.few, slice_get_within es b.index d.last d.listed, many_of b.pairs.now, (kept_of b.pairs.now).short) in
     answered A B a found c.args.bytes.now c.write_traced.result c.write_traced.new.bytes (c.write_traced.ensures (ready g at counts long) free d)

@@ -11,7 +11,7 @@ use Rattle.compare.specs.declared.pairs.Listed.{Listed}
 use Rattle.compare.specs.Listing.{entries_of}
 use Rattle.document.specs.Documents.{OnPath}
 use Rattle.document.specs.Nodes.{Ready}
-use Rattle.document.specs.Steps.{LedFrom, level_at}
+use Rattle.document.specs.Steps.{LedFrom}
 use Rattle.document.proofs.PathNodes.{states_listed}
 use Rattle.document.proofs.Places.{context_says}
 use Rattle.document.proofs.counterexample.Counterexample.path_node.Given as given
@@ -24,10 +24,10 @@ record Met (g : given.Over) (c : After-node_on_path g) (e x : Listed) : Type 0 w
   from : c.in_ok-from.from ≡ x
   low : IsState c.args.self.now.compared.first.now c.in_ok-from.from.first
 
-met : (g : given.Over) (c : After-node_on_path g) (i : ℕ) (e x : Listed) → Ready g.D.Domain.holds c.args.self.now → c.args.level ≡ level_at i → LedFrom (entries_of c.args.self.now.pairs.now) i e x → Met g c e x
+met : (g : given.Over) (c : After-node_on_path g) (i : ℕ) (e x : Listed) → Ready g.D.Domain.holds c.args.self.now → c.args.level.at ≡ Pair i → LedFrom (entries_of c.args.self.now.pairs.now) i e x → Met g c e x
 met g c i e x ready is led =
     let es = entries_of c.args.self.now.pairs.now in
-    let key : ◌≡◌ {A = NodeKey} (Pair c.in-Pair.place) (Pair i) = sym c.in-Pair.is ∙ ap (λ (l : Level NodeKey). l.at) is in
+    let key : ◌≡◌ {A = NodeKey} (Pair c.in-Pair.place) (Pair i) = sym c.in-Pair.is ∙ is in
     let place : c.in-Pair.place ≡ i = cc in
     let pair : c.in_ok-pair.pair ≡ e = same_Some _ _ (c.in_ok-pair.ensures.answer ∙ ap (slice_get es) (c.from.ensures ∙ place) ∙ led.there) in
     let at = ap (slice_get es) (c.from-2.ensures ∙ ap {B = ℕ} (λ (l : Listed). l.parent) pair) in
@@ -43,7 +43,7 @@ returns-in_err-node g c = λ ready s is.
     let A = meaning g.D.Domain.holds c.args.self.now.compared.first.now in
     let B = meaning g.D.Domain.holds c.args.self.now.compared.second.now in
     let f = s.context in
-    let m = met g (goal.at.returns-in_err-node g c).After-node_on_path s.place s.pair s.from ready is s.led in
+    let m = met g (goal.at.returns-in_err-node g c).After-node_on_path s.place s.pair s.from ready (ap (λ (l : Level NodeKey). l.at) is) s.led in
     let w = word f.before ++ s.pair.symbol ∷ word f.after in
     absurd (c.in_err-node.ensures ready m.low f.value w (subst (λ (y : Listed). OnPath A B y.first c.in_ok-pair.pair.symbol f.value w) (sym m.from) (subst (λ (y : Listed). OnPath A B s.from.first y.symbol f.value w) (sym m.pair) f.on_path)))
 
@@ -51,7 +51,7 @@ pub returns : goal.returns
 returns g c = λ ready s is.
     let A = meaning g.D.Domain.holds c.args.self.now.compared.first.now in
     let B = meaning g.D.Domain.holds c.args.self.now.compared.second.now in
-    let m = met g (goal.at.returns g c).After-node_on_path s.place s.pair s.from ready is s.led in
+    let m = met g (goal.at.returns g c).After-node_on_path s.place s.pair s.from ready (ap (λ (l : Level NodeKey). l.at) is) s.led in
     let node = c.in_ok-node.node in
     let found = subst (λ (y : Listed). OnPath A B s.from.first y.symbol node.value node.word) m.pair (subst (λ (y : Listed). OnPath A B y.first c.in_ok-pair.pair.symbol node.value node.word) m.from (c.in_ok-node.ensures ready m.low)) in
     let says = context_says A B s.context node.value node.word found in

@@ -1,9 +1,10 @@
 -- The pair that led here is on the path where a node goes on from it to the pair. Assumes nothing.
-use Rattle.std.proofs.Common.{◌≡◌, ℕ, List, ◌∷◌, ◌++◌, sym, refl, ap, ◌∙◌, subst, arith}
+use Rattle.std.proofs.Common.{◌≡◌, ℕ, List, ◌∷◌, ◌++◌, length, sym, refl, ap, ◌∙◌, subst, arith}
 use Rattle.std.proofs.lemmas.Option.{slice_get_within}
 use Rattle.codec.specs.Trees.{word}
 use Rattle.schema.specs.Meaning.{meaning, states_of}
 use Rattle.search.specs.Watching.{Holds}
+use Rattle.samples.specs.declared.node.NodeKey.TheVariants.{Pair}
 use Rattle.samples.proofs.Sizing.{kept_rooted}
 use Rattle.samples.proofs.Tested.{next_inside}
 use Rattle.compare.specs.Listing.{entries_of}
@@ -48,6 +49,7 @@ returns-clause-back g c = λ ready.
     let on_path : OnPath A B from.first pair.symbol node.value (u ++ pair.symbol ∷ x) = subst (OnPath A B from.first pair.symbol node.value) whole (c.in_ok-node.ensures ready low) in
     let placed = context_of A B from.first from.second pair node.value u x on_path (c.leads.ensures.0 c.if-not-leads.false) parts.1 (states_of t) (next_inside g.D.Domain.holds t) (kept_rooted A (states_of t) self.samples ready.samples) low in
     let f = placed.context in
+    let left : length x ≡ length (word f.after) = ap length (sym placed.word_after) in
     let all = ap (λ (l : List ℕ). l ++ pair.symbol ∷ word f.after) placed.word_before ∙ ap (λ (l : List ℕ). u ++ pair.symbol ∷ l) placed.word_after ∙ sym whole in (
       record {
         place = c.args.place;
@@ -56,7 +58,7 @@ returns-clause-back g c = λ ready.
         led = led_from (entries_of self.pairs.now) c.args.place c.from-at.result pair from c.in_ok-pair.ensures c.from-at.ensures there;
         context = f;
       },
-      refl,
+      (λ j. record { left = sym left j; at = Pair c.args.place }),
       c.from-at.ensures,
       c.context_size-size.ensures ready low from.second pair f refl placed.value all placed.word_before placed.word_after,
     )

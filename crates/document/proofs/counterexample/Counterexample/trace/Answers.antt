@@ -10,7 +10,8 @@ use Rattle.samples.specs.declared.size.TheConstants.{TOO_LONG}
 use Rattle.compare.specs.Listing.{entries_of}
 use Rattle.compare.proofs.Views.{kept_of, many_of}
 use Rattle.samples.specs.declared.node.NodeKey.{NodeKey}
-use Rattle.document.specs.Steps.{PathStep, level_at}
+use Rattle.samples.specs.declared.node.NodeKey.TheVariants.{Pair}
+use Rattle.document.specs.Steps.{path_level}
 use Rattle.document.proofs.Tracing.{pushed_on, pushed_slots, Point, begins, goes_back, no_end, no_path_back, ends_at_first}
 use Rattle.document.proofs.counterexample.Counterexample.trace.Goals as goal
 use Rattle.document.proofs.counterexample.Counterexample.trace.Goals.{then-start-eq0, else-start-eq0}
@@ -58,9 +59,9 @@ loop-at-preserved g c =
           let step = c.in_ok-step.step in
           let next = goes_back A B t.kind es i l.at l.size l.levels.entries step p (c.in_ok-step.ensures.back ready) in
           let inside = slice_get_within es i p.last p.listed in
-          let long = ap length p.marked ∙ length-map p.steps (λ (s : PathStep A B es). level_at s.place) in
+          let long = ap length p.marked ∙ length-map p.steps (path_level {A = A} {B = B} {es = es}) in
           let some : 0 < length l.levels.free = omega (arith, l.invariant.slots, ap length empty, p.few, long, free, inside, many_of pairs, (kept_of pairs).short, c.loop-at-test.true) in
-          let levels = pushed_on l.levels (level_at l.at) c.push.result c.push.new.self c.push.ensures some in
+          let levels = pushed_on l.levels (record { left = step.left; at = Pair l.at }) c.push.result c.push.new.self c.push.ensures some in
           subst (λ (n : ℕ). Point A B t.kind es i step.at n c.push.new.self.entries) (sym c.add-size.ensures.sum) (subst (λ (ls : List (Level NodeKey)). Point A B t.kind es i step.at (min (l.size + step.size) TOO_LONG) ls) (sym levels) next);
     }
 

@@ -13,7 +13,7 @@ use Rattle.compare.specs.Listing.{entries_of}
 use Rattle.document.specs.Contexts.{bytes_before}
 use Rattle.document.specs.Nodes.{Ready}
 use Rattle.document.specs.PathNodes.{path_node_of}
-use Rattle.document.specs.Steps.{PathStep, all_before, level_at, levels_of}
+use Rattle.document.specs.Steps.{PathStep, all_before, path_level, levels_of}
 use Rattle.document.proofs.Steps.{At, step_at, heads_begin}
 use Rattle.document.proofs.counterexample.Counterexample.write_down.Given as given
 use Rattle.document.proofs.counterexample.Counterexample.write_down.Goals as goal
@@ -45,7 +45,7 @@ loop-index-init g c =
       slots = refl;
       same = λ ready space within steps marked. refl;
       written = λ ready space within steps marked.
-          let past : length steps ≤ c.len-index.result = omega (arith, c.len-index.ensures, ap length marked, length-map steps (λ s. level_at s.place)) in
+          let past : length steps ≤ c.len-index.result = omega (arith, c.len-index.ensures, ap length marked, length-map steps path_level) in
           subst (λ l. Appended (all_before l) c.args.output.now c.args.output.now) (sym (drop_of_length-le steps past)) (added_none c.args.output.now within);
     }
 
