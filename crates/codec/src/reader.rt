@@ -8,6 +8,7 @@ use crate::number::read_number;
 use crate::pile::Pile;
 use refusal::fault::{Fault, Refusal};
 use std::marker::Model;
+use std::mem;
 
 /// A place in the input, whether a node comes next there, and the levels of the nodes that it is
 /// in.
@@ -47,6 +48,29 @@ impl<'i, 'p, S: Copy> Reader<'i, 'p, S> {
         ensures { result ≡ length self.now.read }
     {
         self.place
+    }
+
+    /// The levels of the nodes that the reader is in, the root's at the bottom.
+    pub fn levels(&self) -> &Pile<'p, Level<S>>
+        ensures { result.now ≡ self.now.levels }
+    {
+        &self.levels
+    }
+
+    /// Gives the pile back, with the levels of the nodes that the reader is in.
+    pub fn into_levels(self) -> Pile<'p, Level<S>>
+        ensures { result ≡ self.entry.levels }
+    {
+        let Reader { levels, .. } = self;
+        levels
+    }
+
+    /// Takes another pile for the levels, and gives the one before back.
+    pub fn exchange(&mut self, levels: Pile<'p, Level<S>>) -> Pile<'p, Level<S>>
+        ensures before { result ≡ self.old.levels }
+        ensures after { self.new ≡ record self.old { levels = levels.entry } }
+    {
+        mem::replace(&mut self.levels, levels)
     }
 
     /// The level of the innermost node that the reader is in.

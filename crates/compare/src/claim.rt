@@ -1,5 +1,5 @@
 //! Claims: what the holder of an area carries, and can't leave behind.
-ghost use Rattle.std.specs.Prelude.{◌≡◌, true};
+ghost use Rattle.std.specs.Prelude.{◌≡◌, ℕ, true};
 
 use std::marker::PhantomData;
 
@@ -68,9 +68,41 @@ impl<S> Lease<S> {
     {
         self.numbers.serial
     }
+}
+
+/// What giving up asks of a claim: its two numbers, and that it can be spent.
+pub trait Held {
+    // the area's number
+    ghost area: { Self → ℕ };
+    // the area's serial as the comparison began
+    ghost turn: { Self → ℕ };
+
+    /// The area's number.
+    fn number(&self) -> u32
+        ensures { result ≡ area self.now };
+
+    /// The serial as the comparison began.
+    fn serial(&self) -> u32
+        ensures { result ≡ turn self.now };
 
     /// Spends the claim.
-    pub(crate) fn spend(self) {
+    fn spend(self);
+}
+
+impl<S> Held for Lease<S> {
+    ghost area = { λ c. c.numbers.area };
+
+    ghost turn = { λ c. c.numbers.serial };
+
+    fn number(&self) -> u32 {
+        Lease::number(self)
+    }
+
+    fn serial(&self) -> u32 {
+        Lease::serial(self)
+    }
+
+    fn spend(self) {
         let mut claim = self;
         claim.spent = true;
     }

@@ -4,7 +4,7 @@ ghost use Rattle.compare.specs.Concluding.{Conclusion, GivingUp};
 ghost use Rattle.compare.specs.Laws.{ConcludeLaws, GiveUpLaws};
 
 use crate::area::{Area, refusal};
-use crate::claim::{ApartClaim, Claim, Lease};
+use crate::claim::{ApartClaim, Claim, Held, Numbers};
 use crate::event::{Decision, Event, decide};
 use crate::phase::{Kind, Phase};
 use refusal::fault::{Fault, Refusal};
@@ -43,16 +43,21 @@ pub fn conclude(area: &mut Area, claim: Claim) -> Result<Concluded, (Refusal, Cl
     }
 }
 
-/// Gives a claim of either kind up. The holder's frees the area and answers 1, an ousted one's only
+/// Gives a claim of any kind up. The holder's frees the area and answers 1, an ousted one's only
 /// answers 0. Or `foreign`, with the claim.
 // A number, as docs/area.md has it: 1 where this freed the area, and 0 where it did not.
 #[tactic(auto, using(crate::proofs::Laws::give_up_laws))]
-pub fn give_up<S>(area: &mut Area, claim: Lease<S>) -> Result<u32, (Refusal, Lease<S>)>
-    ensures outcome { GivingUp area.old claim.numbers (less_refused result) area.new }
+pub fn give_up<C: Held>(area: &mut Area, claim: C) -> Result<u32, (Refusal, C)>
+    ensures outcome { GivingUp area.old
+        (record { area = C.Held.area claim; serial = C.Held.turn claim })
+        (less_refused result) area.new }
     ensures back { RefusedBack claim result }
     ensures laws { GiveUpLaws }
 {
-    let numbers = claim.numbers();
+    let numbers = Numbers {
+        area: claim.number(),
+        serial: claim.serial(),
+    };
     if numbers.area != area.number {
         return Err((refusal(area, Fault::Foreign), claim));
     }

@@ -7,8 +7,9 @@ ghost use Rattle.notation.specs.Sets.{SetOf};
 
 use crate::lists::write_list;
 use crate::trouble::Trouble;
-use crate::words::{Words, digits};
+use crate::words::{Words, digits, word};
 use std::fmt;
+use std::str::SplitWhitespace;
 
 /// The set of this number alone, or none where no bit stands for it.
 fn bit(member: u32) -> Option<u64>
@@ -38,15 +39,22 @@ pub fn members(word: &str) -> Result<u64, Trouble<'_>>
         .ok_or(Trouble::Unreadable(word))
 }
 
+/// The symbols that the next word of what is left of a line says, one a bit: numbers below 32.
+pub fn symbols<'a>(left: &mut SplitWhitespace<'a>) -> Result<u32, Trouble<'a>>
+    ensures { Takes left.old left.new SetOf result }
+{
+    let word = word(left)?;
+    u32::try_from(members(word)?)
+        .ok()
+        .ok_or(Trouble::Unreadable(word))
+}
+
 impl<'a> Words<'a> {
     /// The symbols that the next word says, one a bit: numbers below 32.
     pub fn symbols(&mut self) -> Result<u32, Trouble<'a>>
         ensures { Takes self.old.left self.new.left SetOf result }
     {
-        let word = self.word()?;
-        u32::try_from(members(word)?)
-            .ok()
-            .ok_or(Trouble::Unreadable(word))
+        symbols(&mut self.left)
     }
 }
 

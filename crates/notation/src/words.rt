@@ -8,11 +8,36 @@ use crate::trouble::Trouble;
 use std::alloc::Global;
 use std::str::SplitWhitespace;
 
+/// The next word of what is left of a line.
+pub fn word<'a>(left: &mut SplitWhitespace<'a>) -> Result<&'a str, Trouble<'a>>
+    ensures { Takes left.old left.new (λ w r. r ≡ ok_or w Trouble.Ended) result }
+{
+    left.next().ok_or(Trouble::Ended)
+}
+
+/// Nothing, where no word is left; a word too many is not read over.
+pub fn end<'a>(left: &mut SplitWhitespace<'a>) -> Result<(), Trouble<'a>>
+    ensures { Takes left.old left.new EndOf result }
+{
+    match left.next() {
+        Some(word) => Err(Trouble::Unreadable(word)),
+        None => Ok(()),
+    }
+}
+
+/// The number that the next word says.
+pub fn number<'a>(left: &mut SplitWhitespace<'a>) -> Result<u32, Trouble<'a>>
+    ensures { Takes left.old left.new NumberOf result }
+{
+    let word = word(left)?;
+    digits(word).ok_or(Trouble::Unreadable(word))
+}
+
 /// The words of a line that are still to be read, and where the lists that they say are kept.
-#[derive(Drop)]
+#[derive(Clone, Debug, Drop)]
 pub struct Words<'a> {
     pub heap: Global,
-    left: SplitWhitespace<'a>,
+    pub left: SplitWhitespace<'a>,
 }
 
 impl<'a> Words<'a> {
@@ -26,29 +51,32 @@ impl<'a> Words<'a> {
         }
     }
 
+    /// The words of a line some of whose words may have been read.
+    pub fn over(heap: Global, left: SplitWhitespace<'a>) -> Words<'a>
+        ensures { result.left ≡ left.entry }
+    {
+        Words { heap, left }
+    }
+
     /// The next word.
     pub fn word(&mut self) -> Result<&'a str, Trouble<'a>>
         ensures { Takes self.old.left self.new.left (λ w r. r ≡ ok_or w Trouble.Ended) result }
     {
-        self.left.next().ok_or(Trouble::Ended)
+        word(&mut self.left)
     }
 
     /// Nothing, where no word is left; a word too many is not read over.
     pub fn end(&mut self) -> Result<(), Trouble<'a>>
         ensures { Takes self.old.left self.new.left EndOf result }
     {
-        match self.left.next() {
-            Some(word) => Err(Trouble::Unreadable(word)),
-            None => Ok(()),
-        }
+        end(&mut self.left)
     }
 
     /// The number that the next word says.
     pub fn number(&mut self) -> Result<u32, Trouble<'a>>
         ensures { Takes self.old.left self.new.left NumberOf result }
     {
-        let word = self.word()?;
-        digits(word).ok_or(Trouble::Unreadable(word))
+        number(&mut self.left)
     }
 }
 

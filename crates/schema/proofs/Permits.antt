@@ -1,15 +1,13 @@
 -- Permitted symbols change the next states alone, which stay states, and where all are permitted
 -- nothing changes. Assumes nothing.
-use Rattle.std.proofs.Common.{◌≡◌, ℕ, ◌<◌, ◌≤◌, Bool, true, false, cond, not, ◌&&◌, ltb, List, [], ◌∷◌, Some, None, Option, bit_and, sym, refl, ap, ◌∙◌, ⊎_elim, arith}
-use Rattle.std.proofs.Math.Bool.{and-true}
-use Rattle.std.proofs.lemmas.Bool.{and_right, cases_lt, cond-true, cond-false, le-ltb, not-false}
+use Rattle.std.proofs.Common.{◌≡◌, ℕ, ◌<◌, ◌≤◌, Bool, true, false, cond, not, ◌&&◌, ltb, List, [], ◌∷◌, Some, None, Option, sym, refl, ◌∙◌, ⊎_elim, arith}
+use Rattle.std.proofs.lemmas.Bool.{cases_lt, cond-true, cond-false, le-ltb, not-false}
 use Rattle.bits.specs.Bits.{bit}
 use Rattle.schema.specs.Automata.{Automaton, passes, row_runs}
 use Rattle.schema.specs.Faults.{faulty}
 use Rattle.schema.specs.Permitted.{permit}
 use Rattle.schema.specs.Tables.{Tables, automaton, entry, transition_byte}
 use Rattle.schema.proofs.Gathering.{chosen_some}
-use Rattle.bits.proofs.Members.{bit-bit_and}
 use Rattle.schema.proofs.Sound.{some_none, sound}
 
 module _ (permitted : ℕ → Bool) (A : Automaton) (q : ℕ) where
@@ -22,13 +20,10 @@ module _ (permitted : ℕ → Bool) (A : Automaton) (q : ℕ) where
       by (Some s) more = more s
       by None more = refl
 
--- the permitted symbols among those that lead into a set of states
-pub into_permitted : (A : Automaton) (q states permitted into : ℕ) → ((a : ℕ) → bit into a ≡ passes (A.next q a) (bit states)) → (a : ℕ) → bit (bit_and into permitted) a ≡ passes ((permit (bit permitted) A).next q a) (bit states)
-into_permitted A q states permitted into same a = bit-bit_and into permitted a ∙ ap (λ (b : Bool). b && bit permitted a) (same a) ∙ by (bit permitted a) (A.next q a)
-  where
-    by : (b : Bool) (o : Option ℕ) → (passes o (bit states) && b) ≡ passes (cond b o None) (bit states)
-    by true o = and-true (passes o (bit states))
-    by false o = and_right (passes o (bit states)) false refl
+-- a next state lies in a set under a permitted symbol, where it is permitted and lies there
+pub passes_permitted : (b : Bool) (o : Option ℕ) (states : ℕ → Bool) → (b && passes o states) ≡ passes (cond b o None) states
+passes_permitted true o states = refl
+passes_permitted false o states = refl
 
 -- where nothing is there, nothing is permitted
 pub permit_none : (b : Bool) (o : Option ℕ) → o ≡ None → cond b o None ≡ None

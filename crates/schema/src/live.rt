@@ -55,7 +55,7 @@ impl<D: Domain> Tested<'_, D> {
         let Some(_) = self.least(state) else {
             return false;
         };
-        let symbols = self.symbols_into(state, live) & permitted;
+        let symbols = self.symbols_into_over(state, live, permitted);
         self.has_sequence_from(state, 0, symbols)
     }
 

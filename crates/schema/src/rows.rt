@@ -4,7 +4,7 @@ ghost use Rattle.std.specs.Prelude.{◌≡◌, ℕ, ◌<◌, ◌&&◌, if◌then
 ghost use Rattle.bits.specs.Bits.{bit};
 ghost use Rattle.schema.specs.Automata.{passes};
 ghost use Rattle.schema.specs.Rows.{After, RowsReached, RowsReachedFrom, RunsOver, RunsOverFrom};
-ghost use Rattle.schema.specs.Meaning.{IsState, meaning, tables_of};
+ghost use Rattle.schema.specs.Meaning.{IsState, meaning, meaning_over, tables_of};
 ghost use Rattle.schema.specs.Tables.{row_count};
 
 use crate::tested::Tested;
@@ -29,6 +29,19 @@ impl<D: Domain> Tested<'_, D> {
     {
         gather(self.symbols() as u8, |symbol| {
             self.leads_into(state, symbol, states)
+        })
+    }
+
+    /// The permitted symbols that lead from the state into a set of states. No other is looked up.
+    pub fn symbols_into_over(&self, state: u8, states: u64, permitted: u64) -> u64
+        ensures { (a : ℕ) →
+            bit result a ≡
+            passes
+            ((meaning_over permitted D.Domain.holds self.now).next state a)
+            (bit states) }
+    {
+        gather(self.symbols() as u8, |symbol| {
+            has_member(permitted, symbol) && self.leads_into(state, symbol, states)
         })
     }
 

@@ -78,6 +78,6 @@ impl<D: Domain> Tested<'_, D> {
             (bit result a)
             (LiveSymbol (meaning_over permitted D.Domain.holds self.now) state a) }
     {
-        self.symbols_held(state, self.symbols_into(state, live) & permitted)
+        self.symbols_held(state, self.symbols_into_over(state, live, permitted))
     }
 }

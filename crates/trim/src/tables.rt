@@ -2,7 +2,7 @@
 ghost use Rattle.std.specs.Prelude.{◌≡◌, ◌+◌, ◌≤◌, length, true};
 ghost use Rattle.trim.specs.Lent.{held, loans, LinesFit, with_lines};
 ghost use Rattle.trim.specs.Outcome.{tables_fit, written};
-ghost use Rattle.trim.specs.Trimming.{old_tables, transition_line_of, row_line_of, row_lines_of, new_tables};
+ghost use Rattle.trim.specs.Trimming.{old_tables, rows_before_of, transition_line_of, row_line_of, row_lines_of, new_tables};
 
 use crate::trimming::Trimming;
 use schema::tables::STATE_BYTES;
@@ -50,15 +50,15 @@ impl<D> Trimming<'_, '_, D> {
         }
     }
 
-    /// Writes the lines of a kept state at their places in the outputs.
-    fn write_lines(&self, state: u8, outputs: &mut Outputs)
-        requires { LinesFit self.now state (held outputs.old) }
+    /// Writes the lines of a kept state at their places in the outputs; its rows begin at `first`.
+    fn write_lines(&self, state: u8, first: usize, outputs: &mut Outputs)
+        requires fit { LinesFit self.now state (held outputs.old) }
+        requires begins { first ≡ rows_before_of self.now state }
         ensures lent { loans outputs.new ≡ loans outputs.old }
         ensures after { held outputs.new ≡ with_lines self.now state (held outputs.old) }
     {
         let symbols = self.symbols();
         let number = self.number(state) as usize;
-        let first = self.rows_before(state);
         let start = number * symbols;
         self.write_transitions(state, &mut outputs.transitions[start..start + symbols]);
         let start = number * STATE_BYTES;
@@ -98,11 +98,14 @@ impl<D> Trimming<'_, '_, D> {
         ensures lent { loans outputs.new ≡ loans outputs.old }
         ensures after { held outputs.new ≡ written (new_tables self.now) (held outputs.old) }
     {
-        for state in 0..self.states() {
+        let states = self.states();
+        let mut first = 0;
+        for state in 0..states {
             if self.keeps(state) {
-                self.write_lines(state, outputs);
+                self.write_lines(state, first, outputs);
+                first += self.row_count(state) as usize;
             }
         }
-        self.counts()
+        (self.number(states) as usize, first)
     }
 }

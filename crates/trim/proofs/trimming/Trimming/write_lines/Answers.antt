@@ -11,13 +11,13 @@ use Rattle.trim.proofs.trimming.Trimming.write_lines.Goals.{After-row_count}
 
 -- where the state's rows go, and how long they are
 record Rows (g : given.Over) (c : After-row_count g) : Type 0 where
-  at : c.rows_before-first.result * (c.symbols-symbols.result + 1) ≡ rows_before_of c.args.self.now c.args.state * ((old_tables c.args.self.now).symbols + 1)
+  at : c.args.first * (c.symbols-symbols.result + 1) ≡ rows_before_of c.args.self.now c.args.state * ((old_tables c.args.self.now).symbols + 1)
   long : c.row_count.result * (c.symbols-symbols.result + 1) ≡ length (row_lines_of c.args.self.now c.args.state)
 
 rows : (g : given.Over) (c : After-row_count g) → Rows g c
 rows g c =
     let t = c.args.self.now in
-    let before = c.rows_before-first.ensures in
+    let before = c.requires.begins in
     let count = c.row_count.ensures in
     let symbols = c.symbols-symbols.ensures in
     record {
@@ -30,22 +30,19 @@ slice_bounds-write_transitions-end g c =
     let symbols = c.symbols-symbols.ensures in
     let number = c.number-number.ensures in
     let at : c.number-number.result * c.symbols-symbols.result ≡ new_number_of c.args.self.now c.args.state * (old_tables c.args.self.now).symbols = λ i. number i * symbols i in
-    let room : c.number-number.result * c.symbols-symbols.result + c.symbols-symbols.result ≤ length c.args.outputs.now.transitions.now = omega (arith, at, symbols, c.requires.transitions) in
+    let room : c.number-number.result * c.symbols-symbols.result + c.symbols-symbols.result ≤ length c.args.outputs.now.transitions.now = omega (arith, at, symbols, c.requires.fit.transitions) in
     room
 
 pub state_line-requires : goal.state_line-requires
 state_line-requires g c =
     let t = c.args.self.now in
-    let few = rows_few (old_tables t) (permitted_of t) (kept_of t) (sound_tables (old_tables t) t.tested.now.sound) c.args.state (omega (arith, c.requires.inside)) in
-    omega (arith, c.rows_before-first.ensures, few)
-
-pub rows_before-first-requires : goal.rows_before-first-requires
-rows_before-first-requires g c = omega (arith, c.requires.inside)
+    let few = rows_few (old_tables t) (permitted_of t) (kept_of t) (sound_tables (old_tables t) t.tested.now.sound) c.args.state (omega (arith, c.requires.fit.inside)) in
+    omega (arith, c.requires.begins, few)
 
 pub slice_bounds-write_rows-end : goal.slice_bounds-write_rows-end
 slice_bounds-write_rows-end g c =
     let place = rows g (goal.at.slice_bounds-write_rows-end g c).After-row_count in
-    let room : c.rows_before-first.result * (c.symbols-symbols.result + 1) + c.row_count.result * (c.symbols-symbols.result + 1) ≤ length c.args.outputs.now.rows.now = omega (arith, place.at, place.long, c.requires.rows) in
+    let room : c.args.first * (c.symbols-symbols.result + 1) + c.row_count.result * (c.symbols-symbols.result + 1) ≤ length c.args.outputs.now.rows.now = omega (arith, place.at, place.long, c.requires.fit.rows) in
     room
 
 pub write_rows-requires : goal.write_rows-requires
